@@ -1,9 +1,15 @@
 -- What is UTF-8, and cells one after another.
-use Rattle.std.proofs.Common.{◌≡◌, ℕ, Bool, true, false, if◌then◌else◌, List, ◌∷◌, flat_map, refl, ap, ◌∙◌}
+use Rattle.std.proofs.Common.{◌≡◌, ℕ, Bool, true, false, if◌then◌else◌, List, [], ◌∷◌, ◌++◌, flat_map, map, codes, Option, Some, None, refl, ap, ◌∙◌}
+use Rattle.std.specs.Prelude.{option_map}
+use Rattle.std.proofs.lemmas.List.{map-append}
 use Rattle.std.proofs.lemmas.Str.{IsUtf8-from_is_utf8, is_utf8-from_IsUtf8}
 use Rattle.std.specs.Char.{encode_utf8}
 use Rattle.std.specs.Str.{IsUtf8, is_utf8}
-use Rattle.arbiter.specs.Cells.{Cell, as_utf8}
+use Rattle.chess_items.specs.Faults.{name_of}
+use Rattle.chess_items.specs.declared.fault.PgnFault.{PgnFault}
+use Rattle.arbiter.specs.declared.cell.Cell as declared
+use Rattle.arbiter.specs.Cells.{Cell, Number, Text, as_utf8, cell_of, maybe}
+use Rattle.arbiter.specs.Rows.{ending_cells}
 
 -- a text that is UTF-8 is left as it is
 pub stays : (text : List ℕ) → IsUtf8 text → as_utf8 text ≡ text
@@ -20,3 +26,12 @@ reads text not = fails_by text (is_utf8 text) refl not
 -- one cell after another
 pub next : {x y : Cell} {xs ys : List Cell} → x ≡ y → xs ≡ ys → x ∷ xs ≡ y ∷ ys
 next {x} {y} {xs} {ys} first rest = ap (λ (c : Cell). c ∷ xs) first ∙ ap (λ (cs : List Cell). y ∷ cs) rest
+
+-- where a game's fault is, and what it is
+pub ending_is : (fault : Option PgnFault) → (codes "fault_place", maybe Number (option_map (λ f. f.place) fault)) ∷ (codes "fault", maybe Text (option_map (λ f. name_of f.kind) fault)) ∷ [] ≡ ending_cells fault
+ending_is None = refl
+ending_is (Some fault) = refl
+
+-- the cells of a game, in two parts
+pub parts_are : (cells head rest : List declared.Cell) (x y : List Cell) → cells ≡ head ++ rest → map cell_of head ≡ x → map cell_of rest ≡ y → map cell_of cells ≡ x ++ y
+parts_are cells head rest x y is first more = ap (λ (cs : List declared.Cell). map cell_of cs) is ∙ map-append cell_of head rest ∙ ap (λ (cs : List Cell). cs ++ map cell_of rest) first ∙ ap (λ (cs : List Cell). x ++ cs) more

@@ -1,6 +1,5 @@
--- Lemmas on cells, rows, numbers of moves, reports and runs over a collection.
+-- Lemmas on cells, rows, numbers of moves, and reports.
 pub mod CellLemmas
 pub mod CsvLemmas
 pub mod NumberLemmas
 pub mod RowLemmas
-pub mod JudgeLemmas

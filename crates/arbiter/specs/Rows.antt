@@ -5,26 +5,34 @@
 --   is_left_open      the board says that the game is over, and its marker doesn't
 --   wins_bare         the marker is a win of a side that has only its king
 --   is_other_variant  a Variant tag names another game than chess
+--   is_another        a Result tag says another result than the marker
+--   is_unmarked       a game has no marker
+--   fen_tag           the FEN that the tags give, where they don't say that the game begins in the usual position
+--   is_changed        it gives other castling rights, or another target, than the position has
 --   has_finding       moves follow after the game was over; or its marker disagrees with the board, leaves it open or is a win of a king alone; or it is a
---                     game of another variant
---   game_cells        the row of a game
---   fault_cells       the row of one that can't be read
+--                     game of another variant; or it has no marker, or another than its Result tag; or its FEN is changed
+--   Roster            what tags say of who played, where and when; roster_in, those of a game; IsRosterOf, those of a text
+--   game_cells        the row of a game, or of the game that one which can't be read is repaired to
+--   fault_cells       the row of one that can't be read, and isn't repaired
 --   names             the names of the columns
-use Rattle.std.specs.Prelude.{ℕ, zero, suc, nat_lt, Bool, false, not, ◌||◌, ◌&&◌, bytes_eq, if◌then◌else◌, is_some, List, [], ◌∷◌, ◌++◌, length, codes, Option, Some, None, option_map}
+use Rattle.std.specs.Prelude.{ℕ, zero, suc, nat_eq, nat_lt, Bool, false, not, ◌||◌, ◌&&◌, bytes_eq, if◌then◌else◌, is_some, List, [], ◌∷◌, ◌++◌, length, codes, Option, Some, None, option_map}
 use Rattle.chess_types.specs.declared.board.man.Colour.{Colour}
 use Rattle.chess_types.specs.declared.board.man.Colour.TheVariants.{White, Black}
+use Rattle.std.specs.List.{ends_with, starts_with}
 use Rattle.std.specs.Str.{str_eq_ignore_ascii_case}
 use Rattle.chess_types.specs.declared.board.outcome.Status.{Status}
 use Rattle.chess_types.specs.board.Mating.{is_bare}
 use Rattle.chess_types.specs.board.Position.{PositionParts}
 use Rattle.chess_types.specs.board.Lines.{Line, last}
 use Rattle.chess_types.specs.board.Outcome.{status, status_text, winner}
-use Rattle.chess_fen.specs.Writing.{written}
+use Rattle.chess_fen.specs.Writing.{four_fields, written}
 use Rattle.chess_items.specs.declared.fault.PgnFault.{PgnFault}
 use Rattle.chess_items.specs.Faults.{name_of}
 use Rattle.chess_items.specs.declared.outcome.Outcome.{Outcome}
 use Rattle.chess_items.specs.declared.outcome.Outcome.TheVariants.{WhiteWins, BlackWins}
+use Rattle.chess_collection.specs.Headings.{Heading, IsThreeOf}
 use Rattle.chess_pgn.specs.Games.{Game, Tags, tag_value}
+use Rattle.chess_pgn.specs.Tags.{is_usual}
 use Rattle.chess_items.specs.Markers.{outcome_text}
 use Rattle.chess_report.specs.MainLine.{as_far, main}
 use Rattle.chess_report.specs.Findings.{agrees, is_open, is_over, first_fifty, first_over, first_threefold, longest_quiet, most_repetitions}
@@ -87,12 +95,32 @@ abbrev pub is_other_variant : Option (List ℕ) → Bool
 is_other_variant None = false
 is_other_variant (Some name) = not (is_chess name)
 
+-- the value of the Result tag is the marker's (PGN 8.1.1.7); no tag says nothing
+abbrev pub is_another : Option (List ℕ) → Outcome → Bool
+is_another None marker = false
+is_another (Some value) marker = not (bytes_eq value (outcome_text marker))
+
+-- the result is unknown, and the bytes of the game don't end with the marker that says so (PGN 8.2.6)
+abbrev pub is_unmarked : List ℕ → Outcome → Bool
+is_unmarked bytes marker = is_open marker && not (ends_with nat_eq bytes (codes "*"))
+
+-- the value of the tag FEN, unless SetUp says that the game begins in the usual position (PGN 9.7.1, 9.7.2)
+abbrev pub fen_tag : Heading → Option (List ℕ)
+fen_tag heading = if is_usual heading.set_up then None else heading.fen
+
+-- it doesn't begin with the four fields of the position (PGN 16.1.3): it gives castling rights or a target that no position with these men has; no tag says
+-- nothing
+abbrev pub is_changed : Option (List ℕ) → PositionParts → Bool
+is_changed None p = false
+is_changed (Some given) p = not (starts_with nat_eq given (four_fields p p.target))
+
 -- moves follow after the game was over; or its marker disagrees with the board, leaves open what the board ends, or is a win of a king alone; or it is a
--- game of another variant, whose rules these aren't
-abbrev pub has_finding : Game → Bool
-has_finding game =
+-- game of another variant, whose rules these aren't; or it has no marker, or another than its Result tag; or its FEN is changed
+abbrev pub has_finding : Game → Heading → (unmarked : Bool) → Bool
+has_finding game heading unmarked =
     is_some (over_early (main game.tree)) || not (agrees (main game.tree) game.outcome) || is_left_open (main game.tree) game.outcome
     || wins_bare (last (main game.tree)) game.outcome || is_other_variant (tag_value (codes "Variant") game.tags)
+    || is_another heading.result game.outcome || unmarked || is_changed (fen_tag heading) game.tree.start
 
 -- ---- the cells
 
@@ -100,27 +128,63 @@ has_finding game =
 abbrev pub place_cells : ℕ → ℕ → List Cell
 place_cells number offset = (codes "number", Number number) ∷ (codes "offset", Number offset) ∷ []
 
--- what its tags say
-abbrev pub heading_cells : Tags → List Cell
-heading_cells tags =
-    (codes "white", maybe Text (tag_value (codes "White") tags))
-    ∷ (codes "black", maybe Text (tag_value (codes "Black") tags))
-    ∷ (codes "white_elo", maybe Text (tag_value (codes "WhiteElo") tags))
-    ∷ (codes "black_elo", maybe Text (tag_value (codes "BlackElo") tags))
-    ∷ (codes "event", maybe Text (tag_value (codes "Event") tags))
-    ∷ (codes "site", maybe Text (tag_value (codes "Site") tags))
-    ∷ (codes "date", maybe Text (tag_value (codes "Date") tags))
-    ∷ (codes "round", maybe Text (tag_value (codes "Round") tags))
-    ∷ (codes "variant", maybe Text (tag_value (codes "Variant") tags))
-    ∷ (codes "other_variant", Truth (is_other_variant (tag_value (codes "Variant") tags)))
+-- what tags say of who played, where and when
+pub record Roster : Type 0 where
+  pub white : Option (List ℕ)
+  pub black : Option (List ℕ)
+  pub white_elo : Option (List ℕ)
+  pub black_elo : Option (List ℕ)
+  pub event : Option (List ℕ)
+  pub site : Option (List ℕ)
+  pub date : Option (List ℕ)
+  pub round : Option (List ℕ)
+  pub variant : Option (List ℕ)
+
+-- those of a game
+abbrev pub roster_in : Tags → Roster
+roster_in tags = record {
+  white = tag_value (codes "White") tags;
+  black = tag_value (codes "Black") tags;
+  white_elo = tag_value (codes "WhiteElo") tags;
+  black_elo = tag_value (codes "BlackElo") tags;
+  event = tag_value (codes "Event") tags;
+  site = tag_value (codes "Site") tags;
+  date = tag_value (codes "Date") tags;
+  round = tag_value (codes "Round") tags;
+  variant = tag_value (codes "Variant") tags;
+}
+
+-- those of a text of which no game is read
+pub record IsRosterOf (text : List ℕ) (roster : Roster) : Type 0 where
+  pub players : IsThreeOf text (codes "White") (codes "Black") (codes "Variant") (record { first = roster.white; second = roster.black; third = roster.variant })
+  pub ratings : IsThreeOf text (codes "WhiteElo") (codes "BlackElo") (codes "Round") (record { first = roster.white_elo; second = roster.black_elo; third = roster.round })
+  pub event : IsThreeOf text (codes "Event") (codes "Site") (codes "Date") (record { first = roster.event; second = roster.site; third = roster.date })
+
+-- their cells, and whether the game is another than chess
+abbrev pub roster_cells : Roster → List Cell
+roster_cells roster =
+    (codes "white", maybe Text roster.white)
+    ∷ (codes "black", maybe Text roster.black)
+    ∷ (codes "white_elo", maybe Text roster.white_elo)
+    ∷ (codes "black_elo", maybe Text roster.black_elo)
+    ∷ (codes "event", maybe Text roster.event)
+    ∷ (codes "site", maybe Text roster.site)
+    ∷ (codes "date", maybe Text roster.date)
+    ∷ (codes "round", maybe Text roster.round)
+    ∷ (codes "variant", maybe Text roster.variant)
+    ∷ (codes "other_variant", Truth (is_other_variant roster.variant))
     ∷ []
 
--- what the Laws say of its main line
-abbrev pub line_cells : Line → Outcome → List Cell
-line_cells line marker =
+-- what the Laws say of its main line, and what its text says of its start and its end; whether it has a marker is known only of a game that can be read
+abbrev pub line_cells : Line → Outcome → Heading → Option Bool → List Cell
+line_cells line marker heading unmarked =
     (codes "start_fen", maybe Text (start_text (written line.start)))
+    ∷ (codes "fen_changed", Truth (is_changed (fen_tag heading) line.start))
     ∷ (codes "plies", Number (length line.moves))
     ∷ (codes "result", Text (outcome_text marker))
+    ∷ (codes "result_tag", maybe Text heading.result)
+    ∷ (codes "other_result", Truth (is_another heading.result marker))
+    ∷ (codes "no_marker", maybe Truth unmarked)
     ∷ (codes "status", Text (status_text (status line)))
     ∷ (codes "winner", maybe Text (option_map colour_text (winner (last line))))
     ∷ (codes "over_ply", maybe Number (over_early line))
@@ -143,11 +207,20 @@ abbrev pub empty_cells : List (List ℕ) → List Cell
 empty_cells [] = []
 empty_cells (name ∷ names) = (name, Nothing) ∷ empty_cells names
 
--- the columns of a game that one which can't be read hasn't
-abbrev pub game_names : List (List ℕ)
-game_names =
+-- the columns of what tags say
+abbrev pub roster_names : List (List ℕ)
+roster_names =
     codes "white" ∷ codes "black" ∷ codes "white_elo" ∷ codes "black_elo" ∷ codes "event" ∷ codes "site" ∷ codes "date" ∷ codes "round"
-    ∷ codes "variant" ∷ codes "other_variant" ∷ codes "start_fen" ∷ codes "plies" ∷ codes "result" ∷ codes "status" ∷ codes "winner"
+    ∷ codes "variant" ∷ codes "other_variant" ∷ []
+
+-- those of a game that one which can't be read hasn't, before the one of the tag Result
+abbrev pub early_names : List (List ℕ)
+early_names = codes "start_fen" ∷ codes "fen_changed" ∷ codes "plies" ∷ codes "result" ∷ []
+
+-- those after it
+abbrev pub late_names : List (List ℕ)
+late_names =
+    codes "other_result" ∷ codes "no_marker" ∷ codes "status" ∷ codes "winner"
     ∷ codes "over_ply" ∷ codes "over_move" ∷ codes "over_why" ∷ codes "threefold_ply" ∷ codes "threefold_move" ∷ codes "fifty_ply"
     ∷ codes "fifty_move" ∷ codes "repetitions" ∷ codes "quiet" ∷ codes "agrees" ∷ codes "left_open" ∷ codes "bare_king_wins" ∷ codes "fen" ∷ []
 
@@ -155,15 +228,24 @@ game_names =
 abbrev pub fault_names : List (List ℕ)
 fault_names = codes "fault_place" ∷ codes "fault" ∷ []
 
--- the row of a game
-abbrev pub game_cells : ℕ → ℕ → Game → List Cell
-game_cells number offset game = place_cells number offset ++ (heading_cells game.tags ++ (line_cells (main game.tree) game.outcome ++ empty_cells fault_names))
+-- the fault of a game, if it has one
+abbrev pub ending_cells : Option PgnFault → List Cell
+ending_cells None = empty_cells fault_names
+ending_cells (Some fault) = (codes "fault_place", Number fault.place) ∷ (codes "fault", Text (name_of fault.kind)) ∷ []
 
--- the row of one that can't be read
-abbrev pub fault_cells : ℕ → ℕ → PgnFault → List Cell
-fault_cells number offset fault =
-    place_cells number offset ++ (empty_cells game_names ++ (codes "fault_place", Number fault.place) ∷ (codes "fault", Text (name_of fault.kind)) ∷ [])
+-- the row of a game
+abbrev pub game_cells : ℕ → ℕ → Game → Heading → Option Bool → Option PgnFault → List Cell
+game_cells number offset game heading unmarked fault =
+    place_cells number offset ++ (roster_cells (roster_in game.tags) ++ (line_cells (main game.tree) game.outcome heading unmarked ++ ending_cells fault))
+
+-- what can be said of one that isn't read: the value of its tag Result
+abbrev pub lost_cells : Option (List ℕ) → List Cell
+lost_cells result = empty_cells early_names ++ (codes "result_tag", maybe Text result) ∷ empty_cells late_names
+
+-- the row of one that can't be read, and isn't repaired
+abbrev pub fault_cells : ℕ → ℕ → Roster → Heading → PgnFault → List Cell
+fault_cells number offset roster heading fault = place_cells number offset ++ (roster_cells roster ++ (lost_cells heading.result ++ ending_cells (Some fault)))
 
 -- the names of the columns
 abbrev pub names : List (List ℕ)
-names = codes "number" ∷ codes "offset" ∷ (game_names ++ fault_names)
+names = codes "number" ∷ codes "offset" ∷ (roster_names ++ (early_names ++ (codes "result_tag" ∷ (late_names ++ fault_names))))

@@ -1,3 +1,3 @@
 -- Definitions for the code alone.
-pub mod Judging
 pub mod Reports
+pub mod Rosters

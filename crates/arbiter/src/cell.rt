@@ -90,6 +90,16 @@ pub fn truth<'v>(name: &'static str, value: bool) -> Cell<'v>
     }
 }
 
+/// `true` or `false`, if it is known.
+pub fn any_truth<'v>(name: &'static str, value: Option<bool>) -> Cell<'v>
+    ensures { cell_of result ≡ (name.now, maybe Truth value) }
+{
+    match value {
+        Some(value) => truth(name, value),
+        None => nothing(name),
+    }
+}
+
 /// A value that isn't there.
 pub fn nothing<'v>(name: &'static str) -> Cell<'v>
     ensures { cell_of result ≡ (name.now, Nothing) }

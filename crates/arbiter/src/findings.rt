@@ -2,12 +2,16 @@
 
 ghost use Rattle.std.specs.Prelude.{◌≡◌, option_map};
 ghost use Rattle.chess_pgn.specs.Games.{tag_value};
+ghost use Rattle.chess_pgn.specs.Tags.{is_usual};
 ghost use Rattle.chess_pgn.specs.steps.GameCode.{tags_of};
 ghost use Rattle.chess_report.specs.Findings.{is_open};
 ghost use Rattle.chess_types.specs.board.Mating.{is_bare};
-ghost use Rattle.arbiter.specs.Rows.{is_chess, is_other_variant, wins_bare};
+ghost use Rattle.arbiter.specs.Rows.{fen_tag, is_another, is_changed, is_chess, is_other_variant, is_unmarked, wins_bare};
 ghost use Rattle.arbiter.specs.steps.Reports.{is_finding, is_unended};
 
+use chess_collection::Heading;
+use chess_fen::write_fields;
+use chess_items::is;
 use chess_pgn::{Game, Outcome};
 use chess_report::Report;
 use chess_types::{Colour, Position, Status};
@@ -61,14 +65,73 @@ pub fn wins_bare(report: &Report) -> bool
     }
 }
 
+/// Whether a Result tag says another result than the marker (PGN 8.1.1.7).
+pub fn is_another(value: Option<&[u8]>, marker: Outcome) -> bool
+    ensures { result ≡ is_another (option_map (λ v. v.now) value.entry) marker }
+{
+    match value {
+        Some(value) => !is(value, marker.marker().as_bytes()),
+        None => false,
+    }
+}
+
+/// Whether a game with those bytes has no marker (PGN 8.2.6).
+pub fn is_unmarked(bytes: &[u8], marker: Outcome) -> bool
+    ensures { result ≡ is_unmarked bytes.now marker }
+{
+    marker == Outcome::Unfinished && !bytes.ends_with(b"*")
+}
+
+/// Whether the FEN of a tag gives other castling rights, or another target, than the position has.
+pub fn is_changed(given: Option<&[u8]>, start: &Position) -> bool
+    ensures { result ≡ is_changed (option_map (λ v. v.now) given.entry) start.now }
+{
+    match given {
+        Some(given) => {
+            let fields = write_fields(start.setup(), start.setup().target);
+            !given.starts_with(fields.as_str().as_bytes())
+        }
+        None => false,
+    }
+}
+
+// Whether a SetUp of 0 says that the game begins in the usual position (PGN 9.7.1).
+fn is_usual(value: Option<&[u8]>) -> bool
+    ensures { result ≡ is_usual (option_map (λ v. v.now) value.entry) }
+{
+    match value {
+        Some(value) => is(value, b"0"),
+        None => false,
+    }
+}
+
+/// The FEN that the tags give, unless they say that the game begins in the usual position.
+pub fn fen_tag(heading: &Heading) -> Option<&[u8]>
+    ensures { option_map (λ v. v.now) result ≡ fen_tag heading.now }
+{
+    if is_usual(heading.set_up()) {
+        return None;
+    }
+    heading.fen()
+}
+
 /// Whether something is wrong with a game: moves follow after it was over, its marker disagrees with the board, leaves open a game that is over, or is a
-/// win of a king alone, or it is a game of another variant.
-pub fn has_finding<A: Allocator>(game: &Game<'_, A>, report: &Report) -> bool
-    ensures { result ≡ is_finding (tags_of game.now.tags) report.now }
+/// win of a king alone, it is a game of another variant, it has no marker or another than its Result tag, or its FEN is changed.
+pub fn has_finding<A: Allocator>(
+    game: &Game<'_, A>,
+    report: &Report,
+    start: &Position,
+    heading: &Heading,
+    is_unmarked: bool,
+) -> bool
+    ensures { result ≡ is_finding (tags_of game.now.tags) report.now start.now heading.now is_unmarked }
 {
     report.played_on().is_some()
         || !report.agrees
         || is_left_open(report)
         || wins_bare(report)
         || is_other_variant(game.tag(b"Variant"))
+        || is_another(heading.result(), report.marker)
+        || is_unmarked
+        || is_changed(fen_tag(heading), start)
 }

@@ -1,22 +1,32 @@
-ghost use Rattle.std.specs.Prelude.{◌≡◌, false, None, Some, IfErr, IfOk, OnOk};
-ghost use Rattle.chess_items.specs.Coming.{AtHand};
-ghost use Rattle.chess_pgn.specs.Sources.{GivesUp, GoesOn, IsSound, Leaves};
-ghost use Rattle.chess_pgn.specs.declared.games.GamesFault.{GamesFault};
+//! A row for each game of a collection.
+
+ghost use Rattle.std.specs.Prelude.{◌≡◌, ◌≤◌, ◌≢◌, [], None, Some, IfErr, IfOk, IfSome, length};
+ghost use Rattle.chess_collection.specs.Headings.{IsHeadingOf};
+ghost use Rattle.chess_collection.specs.Windows.{KnowsItsEnd};
+ghost use Rattle.chess_items.specs.declared.fault.FaultKind.TheVariants.{Memory};
+ghost use Rattle.chess_command_line.specs.declared.collection.Failure.TheVariants as by;
+ghost use Rattle.chess_pgn.specs.Reading.{BeginsWithGame, HasNoGame, IsWhite};
 ghost use Rattle.chess_pgn.specs.steps.GameCode.{game_of};
-ghost use Rattle.arbiter.specs.Collections.{Bad, Found, JudgeEnds, header_text, row_of};
-ghost use Rattle.arbiter.specs.steps.Judging.{IsReady, NotOn, WritesText, is_lack};
+ghost use Rattle.chess_repair.specs.Letters.{IsInLetters};
+ghost use Rattle.chess_salvage.specs.Salvaging.{found_in};
+ghost use Rattle.arbiter.specs.Collections.{Bad, Found, IsRow, IsRowIn, JudgeEnds, header_text, row_of};
+ghost use Rattle.arbiter.specs.Cells.{row_text};
+ghost use Rattle.arbiter.specs.Rows.{game_cells, is_unmarked};
 ghost use Rattle.arbiter.specs.steps.Reports.{IsReportOf};
 
-use crate::columns::{HEADER, fault_row, game_row};
-use crate::findings::has_finding;
+use crate::columns::{HEADER, Said, fault_row, game_row};
+use crate::findings::{has_finding, is_unmarked};
+use crate::roster::{LostRoster, roster_of};
 use crate::row::Format;
 use byte_streams::{Sink, Source};
-use chess_key::KeyTable;
-use chess_loop::write_all;
-use chess_pgn::{FaultKind, Game, Games, GamesFault, PgnFault};
-use chess_programs::{Failure, GAMES, Place, Progress};
+use chess_collection::{Fate, GameHandler, Handled, Heading, Totals, Window, go_over, heading_of};
+use chess_command_line::{Failure, Place, Progress};
+use chess_items::given_up;
+use chess_pgn::{FaultKind, Game, PgnFault, read_game};
+use chess_repair::{Letters, respell};
 use chess_report::Report;
-use std::alloc::{AllocError, Global};
+use chess_salvage::salvage;
+use std::alloc::{AllocError, Allocator, Global};
 
 /// Which rows are written, and how.
 #[derive(Clone, Copy)]
@@ -24,16 +34,8 @@ pub struct Asked {
     pub format: Format,
     /// Only the games that have a finding, and those that can't be read.
     pub findings: bool,
-}
-
-// Writes a text.
-fn send<W: Sink>(text: &[u8], writer: &mut W) -> Result<(), Failure>
-    ensures { WritesText W.takes W.failed text.now writer.old writer.new result }
-{
-    match write_all(writer, text) {
-        Ok(()) => Ok(()),
-        Err(_) => Err(Failure::Write),
-    }
+    /// The letters of the men in the games, where they aren't the standard's.
+    pub letters: Option<Letters>,
 }
 
 // The names of the columns, where the format has a row of them.
@@ -47,157 +49,237 @@ fn header(format: Format) -> &'static [u8]
 }
 
 // What the Laws say of a game.
-fn report_of(
-    alloc: &Global,
-    game: &Game<'_, Global>,
-    table: &KeyTable,
-) -> Result<Report, AllocError>
+fn report_of(alloc: &Global, game: &Game<'_, Global>) -> Result<Report, AllocError>
     ensures { IfOk result (λ report. IsReportOf report (game_of game.now)) }
 {
-    Report::of(alloc, game, table)
+    Report::of(alloc, game)
 }
 
-/// What a row is made with.
+/// Makes a row of each game.
 #[derive(Drop)]
-struct RowMaker<'t> {
+struct RowMaker {
     alloc: Global,
-    table: &'t KeyTable,
     asked: Asked,
 }
 
-impl<'t> RowMaker<'t> {
-    // A game's row, where it is asked for; else no bytes.
-    fn row(&self, place: Place, game: &Game<'_, Global>) -> Result<Vec<u8>, AllocError>
-        ensures { IfOk result (λ row. row.items ≡ row_of self.now.asked place.number (Found place.offset (game_of game.now))) }
-    {
-        let report = report_of(&self.alloc, game, self.table)?;
-        if self.asked.findings & !has_finding(game, &report) {
-            return Ok(Vec::new(self.alloc));
-        }
-        let start = game.tree.position();
-        game_row(self.alloc, self.asked.format, place, game, start, &report)
+// A fault with its place after so many bytes.
+fn placed(fault: PgnFault, offset: u64) -> PgnFault
+    ensures kind { result.kind ≡ fault.kind }
+    ensures place { offset ≤ result.place }
+{
+    PgnFault {
+        place: fault.place.saturating_add(offset),
+        kind: fault.kind,
     }
+}
 
-    // Writes a game's row, where it is asked for.
-    fn game<W: Sink>(
+impl RowMaker {
+    // A game's row, where it is asked for; else no bytes.
+    fn good_row(
         &self,
         place: Place,
         game: &Game<'_, Global>,
-        writer: &mut W,
-    ) -> Result<(), Failure>
-        ensures { WritesText W.takes W.failed (row_of self.now.asked place.number (Found place.offset (game_of game.now))) writer.old writer.new result }
+        heading: &Heading,
+        unmarked: bool,
+    ) -> Result<Vec<u8>, AllocError>
+        ensures { IfOk result (λ row. row.items ≡ row_of self.now.asked place.number place.offset (Found (game_of game.now) heading.now unmarked)) }
     {
-        match self.row(place, game) {
-            Ok(row) => send(row.as_slice(), writer),
-            Err(_) => Err(Failure::Memory),
+        let report = report_of(&self.alloc, game)?;
+        let start = game.tree.position();
+        let fen = chess_fen::write(start);
+        let first = fen.as_str();
+        if self.asked.findings & !has_finding(game, &report, start, heading, unmarked) {
+            return Ok(Vec::new(self.alloc));
         }
-    }
-
-    // Writes the row of a game that can't be read.
-    fn fault<W: Sink>(&self, place: Place, fault: PgnFault, writer: &mut W) -> Result<(), Failure>
-        ensures { WritesText W.takes W.failed (row_of self.now.asked place.number (Bad place.offset fault)) writer.old writer.new result }
-    {
-        match fault_row(self.alloc, self.asked.format, place, fault) {
-            Ok(row) => send(row.as_slice(), writer),
-            Err(_) => Err(Failure::Memory),
-        }
-    }
-}
-
-// After a fault of a text its game is given up, and reading goes on at the next section of tags.
-fn go_on<R: Source>(games: &mut Games<'_, R, Global>) -> Result<(), Failure>
-    requires sound { IsSound R.ended games.old }
-    requires goes_on { GoesOn games.old.fault }
-    ensures sound { IsSound R.ended games.new }
-    ensures good { OnOk result (games.new.fault ≡ None) }
-    ensures gives_up { (fault : GamesFault) (before : AtHand R) → games.old.fault ≡ Some fault → Leaves R.gives R.failed before games.old.text games.old.halt → IfOk result (λ _. GivesUp R.gives R.failed before games.new.text) }
-    ensures fault { (fault : GamesFault) → games.old.fault ≡ Some fault → IfErr result (λ failure. NotOn R.gives R.failed games.old games.new failure) }
-{
-    match games.pass_over() {
-        Ok(_) => Ok(()),
-        Err(GamesFault::Read) => Err(Failure::Read),
-        Err(GamesFault::Pgn(_)) => Err(Failure::Memory),
-    }
-}
-
-// Whether a fault is want of memory, and says nothing of the text.
-fn is_lack(kind: FaultKind) -> bool
-    ensures { result ≡ is_lack kind }
-{
-    match kind {
-        FaultKind::Memory => true,
-        _ => false,
-    }
-}
-
-// Writes the names of the columns and the rows of the games; how many games could not be read.
-fn write_rows<R: Source, W: Sink>(
-    maker: &RowMaker<'_>,
-    games: &mut Games<'_, R, Global>,
-    writer: &mut W,
-    progress: &mut Progress<'_>,
-) -> Result<u64, Failure>
-    requires { IsReady R.ended W.failed games.old writer.old }
-    ensures { JudgeEnds R.gives R.failed R.ended W.takes W.failed maker.now.asked games.old games.new writer.old writer.new result }
-{
-    if write_all(writer, header(maker.asked.format)).is_err() {
-        return Err(Failure::Write);
-    }
-    let mut bad = 0u64;
-    for before in 0..GAMES {
-        let offset = games.used();
-        progress.show(offset, before);
-        let place = Place {
-            number: before + 1,
-            offset,
+        let said = Said {
+            heading,
+            is_unmarked: Some(unmarked),
+            fault: None,
         };
-        match games.next() {
-            Ok(None) => return Ok(bad),
-            Ok(Some(game)) => {
-                if let Err(failure) = maker.game(place, &game, writer) {
-                    return Err(failure);
-                }
-            }
-            Err(GamesFault::Read) => return Err(Failure::Read),
-            Err(GamesFault::Pgn(fault)) => {
-                if is_lack(fault.kind) {
-                    return Err(Failure::Memory);
-                }
-                if let Err(failure) = maker.fault(place, fault, writer) {
-                    return Err(failure);
-                }
-                bad += 1;
-                if let Err(failure) = go_on(games) {
-                    return Err(failure);
-                }
-            }
+        game_row(
+            self.alloc,
+            self.asked.format,
+            place,
+            game,
+            said,
+            start,
+            first,
+            &report,
+        )
+    }
+
+    // The row of a game that can't be read, and is repaired.
+    fn mended_row(
+        &self,
+        place: Place,
+        game: &Game<'_, Global>,
+        heading: &Heading,
+        fault: PgnFault,
+    ) -> Result<Vec<u8>, AllocError>
+        ensures { IfOk result (λ row. row.items ≡ row_text self.now.asked.format (game_cells place.number place.offset (game_of game.now) heading.now None (Some fault))) }
+    {
+        let report = report_of(&self.alloc, game)?;
+        let start = game.tree.position();
+        let fen = chess_fen::write(start);
+        let first = fen.as_str();
+        let said = Said {
+            heading,
+            is_unmarked: None,
+            fault: Some(fault),
+        };
+        game_row(
+            self.alloc,
+            self.asked.format,
+            place,
+            game,
+            said,
+            start,
+            first,
+            &report,
+        )
+    }
+
+    // The row of a game that can't be read; the game that its text is repaired to, if there is one, is given.
+    fn bad_row(
+        &self,
+        place: Place,
+        mended: &Option<Game<'_, Global>>,
+        heading: &Heading,
+        roster: &LostRoster,
+        fault: PgnFault,
+    ) -> Result<Vec<u8>, AllocError>
+        ensures { IfOk result (λ row. row.items ≡ row_of self.now.asked place.number place.offset (Bad fault (found_in mended.now) heading.now roster.now)) }
+    {
+        match mended {
+            Some(game) => self.mended_row(place, game, heading, fault),
+            None => fault_row(
+                self.alloc,
+                self.asked.format,
+                place,
+                roster.roster(),
+                heading,
+                fault,
+            ),
         }
     }
-    Err(Failure::Read)
+
+    // What becomes of a game.
+    fn good(
+        &self,
+        place: Place,
+        bytes: &[u8],
+        game: &Game<'_, Global>,
+        used: usize,
+    ) -> Result<Handled, AllocError>
+        requires begins { BeginsWithGame bytes.now (game_of game.now) used }
+        requires fits { used ≤ length bytes.now }
+        ensures used { IfOk result (λ h. h.used ≡ used) }
+        ensures row { IfOk result (λ h. IsRow self.now.asked place.number place.offset bytes.now used h.fate h.text.items) }
+    {
+        let heading = heading_of(self.alloc, bytes)?;
+        let unmarked = is_unmarked(&bytes[..used], game.result);
+        let text = self.good_row(place, game, &heading, unmarked)?;
+        Ok(Handled {
+            used,
+            fate: Fate::Read,
+            repaired: 0,
+            text,
+        })
+    }
+
+    // What becomes of a game that can't be read.
+    fn bad(&self, place: Place, bytes: &[u8], fault: PgnFault) -> Result<Handled, AllocError>
+        requires none { HasNoGame bytes.now }
+        requires kind { fault.kind ≢ Memory }
+        requires place { place.offset ≤ fault.place }
+        ensures fits { IfOk result (λ h. h.used ≤ length bytes.now) }
+        ensures row { IfOk result (λ h. IsRow self.now.asked place.number place.offset bytes.now h.used h.fate h.text.items) }
+    {
+        let heading = heading_of(self.alloc, bytes)?;
+        let roster = roster_of(self.alloc, bytes)?;
+        let found = salvage(&self.alloc, bytes)?;
+        let text = self.bad_row(place, &found.game, &heading, &roster, fault)?;
+        Ok(Handled {
+            used: given_up(bytes),
+            fate: Fate::Lost,
+            repaired: 0,
+            text,
+        })
+    }
+
+    // What becomes of the game that a text begins with, in the standard's letters.
+    fn spelt(&self, place: Place, bytes: &[u8]) -> Result<Option<Handled>, Failure>
+        ensures fits { IfOk result (λ found. IfSome found (λ h. h.used ≤ length bytes.now)) }
+        ensures row { IfOk result (λ found. IfSome found (λ h. IsRow self.now.asked place.number place.offset bytes.now h.used h.fate h.text.items)) }
+        ensures white { IfOk result (λ found. found ≡ None → IsWhite bytes.now) }
+        ensures memory { IfErr result (λ failure. failure ≡ by.Memory) }
+    {
+        match read_game(&self.alloc, bytes) {
+            Ok(None) => Ok(None),
+            Ok(Some((game, used))) => match self.good(place, bytes, &game, used) {
+                Ok(handled) => Ok(Some(handled)),
+                Err(_) => Err(Failure::Memory),
+            },
+            Err(fault) => match fault.kind {
+                FaultKind::Memory => Err(Failure::Memory),
+                _ => match self.bad(place, bytes, placed(fault, place.offset)) {
+                    Ok(handled) => Ok(Some(handled)),
+                    Err(_) => Err(Failure::Memory),
+                },
+            },
+        }
+    }
 }
 
-/// Writes a row for each game of the reader, before the next is read: what the Laws say of it, or why it can't be read. Returns how many could not.
+impl GameHandler for RowMaker {
+    ghost use Rattle.chess_pgn.specs.Reading.{IsWhite};
+    ghost use Rattle.arbiter.specs.Collections.{IsRowIn};
+
+    ghost handles = { λ maker number offset bytes used fate text. IsRowIn maker.asked number offset bytes used fate text };
+
+    ghost white = { λ bytes. IsWhite bytes };
+
+    #[tactic(auto, using(crate::proofs::RowLemmas::row_in))]
+    fn handle(&self, place: Place, bytes: &[u8]) -> Result<Option<Handled>, Failure> {
+        match respell(&self.alloc, self.asked.letters, bytes) {
+            Ok(Some(respelled)) => match self.spelt(place, respelled.text.as_slice()) {
+                Ok(Some(handled)) => Ok(Some(handled)),
+                Ok(None) => self.spelt(place, bytes),
+                Err(failure) => Err(failure),
+            },
+            Ok(None) => self.spelt(place, bytes),
+            Err(_) => Err(Failure::Memory),
+        }
+    }
+}
+
+/// Writes a row for each game of a collection: what the Laws say of it; of one that can't be read its fault, and what is said of the game that its text is
+/// repaired to, or of what its tags say where there is none; where letters of a language are given, each game is read with letters of men as the standard has
+/// them. Returns how many there were, and how many of them could not be read.
 ///
 /// # Errors
 ///
 /// `Read`: a read failed, there were 2^40, or there were 2^57 games; the rows of all games before it are written. `Write`: a write failed or took no
-/// byte, and a prefix of the rows is written. `Memory`: there was none for the next game or its row, or to give up a
-/// bad one; the rows of all before it are written.
-pub fn judge<R: Source, W: Sink>(
+/// byte, and a prefix of the rows is written. `Memory`: there was none for the next game or its row; the rows of all before it are written.
+pub fn judge<'a, R: Source, W: Sink, A: Allocator>(
     alloc: Global,
     asked: Asked,
-    games: &mut Games<'_, R, Global>,
+    window: &mut Window<'a, R, A>,
     writer: &mut W,
     progress: &mut Progress<'_>,
-) -> Result<u64, Failure>
-    requires { IsReady R.ended W.failed games.old writer.old }
-    ensures { JudgeEnds R.gives R.failed R.ended W.takes W.failed asked games.old games.new writer.old writer.new result }
+) -> Result<Totals, Failure>
+    requires sound { KnowsItsEnd R.ended window.old }
+    requires fresh { window.old.bytes ≡ [] }
+    requires reads { window.old.reads ≤ 1099511627776 }
+    ensures { JudgeEnds R.gives R.failed R.ended W.takes W.failed asked window.old.reads window.old.source window.new writer.old writer.new result }
 {
-    let table = KeyTable::fixed();
-    let maker = RowMaker {
+    let maker = RowMaker { alloc, asked };
+    go_over(
         alloc,
-        table: &table,
-        asked,
-    };
-    write_rows(&maker, games, writer, progress)
+        &maker,
+        header(asked.format),
+        window,
+        writer,
+        progress,
+    )
 }

@@ -12,8 +12,8 @@ use Rattle.chess_pgn.specs.declared.game.Game.{Game as Code}
 use Rattle.chess_pgn.specs.steps.GameCode.{game_of}
 use Rattle.chess_pgn.specs.declared.games.GamesFault.{GamesFault}
 use Rattle.chess_pgn.specs.declared.games.GamesFault.TheVariants.{Pgn, Read}
-use Rattle.chess_programs.specs.declared.collection.Failure.{Failure}
-use Rattle.chess_programs.specs.declared.collection.Failure.TheVariants as by
+use Rattle.chess_command_line.specs.declared.collection.Failure.{Failure}
+use Rattle.chess_command_line.specs.declared.collection.Failure.TheVariants as by
 use Rattle.chess_games.specs.declared.form.Form.{Form}
 use Rattle.chess_games.specs.Forms.{text_in}
 use Rattle.chess_games.specs.Filtered.{Entry, Good, Bad, Goes, good_text, bad_count, IsFilteredInPart, IsFresh, IsGoneOver, IsFiltered, IsLeftOff, IsUnwritten, NoNext, Stops, most_games}

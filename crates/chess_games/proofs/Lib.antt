@@ -2,5 +2,4 @@
 pub mod FilteredLemmas
 mod HeadLemmas
 pub mod MarkedLemmas
-mod WindowLemmas
-mod SalvagedLemmas
+mod SavingLemmas

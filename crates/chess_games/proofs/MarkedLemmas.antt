@@ -8,8 +8,8 @@ use Rattle.byte_streams.specs.Calls.{Calls, Carries, joined}
 use Rattle.byte_streams.proofs.CallLemmas.{Calls-more, Carries-none, Carries-append, Carries-more, joined-more}
 use Rattle.chess_items.specs.Sections.{OpensTag}
 use Rattle.chess_loop.specs.RunEnds.{Broken, most_reads}
-use Rattle.chess_programs.specs.declared.collection.Failure.{Failure as Cause}
-use Rattle.chess_programs.specs.declared.collection.Failure.TheVariants as by
+use Rattle.chess_command_line.specs.declared.collection.Failure.{Failure as Cause}
+use Rattle.chess_command_line.specs.declared.collection.Failure.TheVariants as by
 use Rattle.chess_games.specs.declared.cut.CutFault.{CutFault}
 use Rattle.chess_games.specs.declared.cut.CutFault.TheVariants.{Failure, Zero}
 use Rattle.chess_games.specs.Pieces.{IsCut, IsCutInPart, IsMarked, IsStopped, Stops}

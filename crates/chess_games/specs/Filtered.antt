@@ -22,8 +22,8 @@ use Rattle.chess_items.specs.declared.fault.PgnFault.{PgnFault}
 use Rattle.chess_loop.specs.RunEnds.{Broken}
 use Rattle.chess_pgn.specs.Games.{Game}
 use Rattle.chess_pgn.specs.Sources.{Fails, GivesUp, HasGame, HasNone, ReadFails, Starves}
-use Rattle.chess_programs.specs.declared.collection.Failure.{Failure}
-use Rattle.chess_programs.specs.declared.collection.Failure.TheVariants as by
+use Rattle.chess_command_line.specs.declared.collection.Failure.{Failure}
+use Rattle.chess_command_line.specs.declared.collection.Failure.TheVariants as by
 use Rattle.chess_games.specs.declared.form.Form.{Form}
 use Rattle.chess_games.specs.Forms.{text_in}
 use Rattle.chess_games.specs.Parts.{Part, is_in}

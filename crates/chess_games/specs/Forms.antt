@@ -13,11 +13,11 @@ use Rattle.chess_games.specs.declared.form.Form.TheVariants.{Games, Rows}
 
 abbrev pub head_in : Form → List ℕ
 head_in Games = []
-head_in (Rows layout table) = names_text layout.format layout.columns.items
+head_in (Rows layout) = names_text layout.format layout.columns.items
 
 abbrev pub text_in : Form → ℕ → Game → List ℕ
 text_in Games before game = game_text game
-text_in (Rows layout table) before game = plies_text layout.format layout.columns.items (before + 1) game.outcome (main game.tree)
+text_in (Rows layout) before game = plies_text layout.format layout.columns.items (before + 1) game.outcome (main game.tree)
 
 pub record IsHeaded {W : Type 0} (takes : W → List ℕ → W → Type 0) (write_failed : W → Bool) (form : Form) (old : W) (Then : W → Type 0) : Type 0 where
   pub mid : W

@@ -5,5 +5,4 @@ pub mod Filtered
 pub mod Parts
 pub mod Pieces
 pub mod Salvaged
-pub mod Windows
 pub mod steps

@@ -11,7 +11,7 @@ use Rattle.std.specs.List.{AllByRecursion, list_any}
 use Rattle.byte_streams.specs.Calls.{Calls, Carries, joined}
 use Rattle.chess_items.specs.Sections.{OpensTag}
 use Rattle.chess_loop.specs.RunEnds.{Broken, most_reads}
-use Rattle.chess_programs.specs.declared.collection.Failure.TheVariants as by
+use Rattle.chess_command_line.specs.declared.collection.Failure.TheVariants as by
 use Rattle.chess_games.specs.declared.cut.CutFault.{CutFault}
 use Rattle.chess_games.specs.declared.cut.CutFault.TheVariants.{Failure, Zero}
 

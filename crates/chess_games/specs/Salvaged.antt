@@ -1,94 +1,75 @@
--- What is read of a collection whose bad games are salvaged, and written of it.
---   Stretch      some bytes of a collection: those of a good game, those that a game was saved from, or others, which are passed over
---   bytes_of     its bytes
---   IsLookedAt   bytes that are looked at: all that are left, or the first 1,179,648 of them at least
+-- What is read of a collection whose bad games are salvaged, and written of it. How a collection is gone over is in `chess_collection/specs/Handling.antt`.
+--   Entry        a good game, one that was saved from its text, or bytes that are passed over
 --   IsSavedFrom  the game is what strict reading gives of the text that so many of those bytes were repaired to, and they have none
---   Explains     what they begin with, by which a stretch of theirs is one
---   Tiles        stretches of some bytes, one after the other, without a gap, each explained by the bytes that are left where it begins; and the bytes after them
+--   IsEntryOf    what bytes begin with: an entry that has so many of them
 --   found_text   what is written of a game that was found after so many others, if it is asked for
---   saved_text   what is written of the good and the saved games of a part, in order, after so many stretches
---   lost_count   how many stretches of a part are passed over
---   IsSalvagedAll  a source is read to its end, and stretches of its bytes go up to white space; the good and the saved games of the part are written, and nothing else;
---                this many of the part are passed over; no call failed
-use Rattle.std.specs.Prelude.{◌≡◌, ◌⊎◌, ◌≤◌, ◌<◌, ℕ, ◌+◌, Bool, if◌then◌else◌, List, [], ◌∷◌, ◌++◌, length, Option, Some, None}
-use Rattle.byte_streams.specs.Calls.{Carries}
+--   text_of      what is written of an entry after so many others, if it is of the part
+--   fate_in      what becomes of its bytes
+--   IsSavedAs    so many bytes at the start of those that are looked at are an entry, and this is written of it
+--   IsSavedIn    so it is of a text with letters of men as the standard has them, where letters of a language are given
+--   SavingEnds   how a run ends: what comes before all games is written, and then the good and the saved games of the part in order, as the end of going over a
+--                collection says, with how many of the part are passed over
+use Rattle.std.specs.Prelude.{◌≡◌, ◌<◌, ℕ, ◌-◌, Bool, if◌then◌else◌, List, [], Option, Some, None, Result}
+use Rattle.chess_collection.specs.Handling.{GoesOver}
+use Rattle.chess_collection.specs.Windows.{Window}
+use Rattle.chess_collection.specs.declared.going.Totals.{Totals}
+use Rattle.chess_collection.specs.declared.handler.Fate.{Fate}
+use Rattle.chess_collection.specs.declared.handler.Fate.TheVariants.{Read, Lost, Left}
 use Rattle.chess_items.specs.Abandoned.{GivesUp}
 use Rattle.chess_pgn.specs.Games.{Game}
 use Rattle.chess_pgn.specs.Reading.{BeginsWithGame, HasNoGame, IsWhite}
+use Rattle.chess_command_line.specs.declared.collection.Failure.{Failure}
+use Rattle.chess_repair.specs.Letters.{IsInLetters}
+use Rattle.chess_repair.specs.declared.letters.Letters.{Letters}
 use Rattle.chess_repair.specs.declared.repair.Repair.{Repair}
 use Rattle.chess_salvage.specs.Salvaging.{IsSalvaged}
 use Rattle.chess_games.specs.declared.form.Form.{Form}
-use Rattle.chess_games.specs.Forms.{text_in}
+use Rattle.chess_games.specs.Forms.{head_in, text_in}
 use Rattle.chess_games.specs.Parts.{Part, is_in}
 
-pub data Stretch : Type 0 where
-  Good : List ℕ → Game → Stretch
-  Saved : List ℕ → Game → Stretch
-  Lost : List ℕ → Stretch
+pub data Entry : Type 0 where
+  Good : Game → Entry
+  Saved : Game → Entry
+  Passed : Entry
 
-abbrev pub bytes_of : Stretch → List ℕ
-bytes_of (Good bytes game) = bytes
-bytes_of (Saved bytes game) = bytes
-bytes_of (Lost bytes) = bytes
-
-pub record IsLookedAt (window left : List ℕ) : Type 0 where
-  pub more : List ℕ
-  pub parts : left ≡ window ++ more
-  pub wide : (1179648 ≤ length window) ⊎ (more ≡ [])
-
-pub record IsSavedFrom (window : List ℕ) (used : ℕ) (game : Game) : Type 0 where
-  pub none : HasNoGame window
+pub record IsSavedFrom (bytes : List ℕ) (used : ℕ) (game : Game) : Type 0 where
+  pub none : HasNoGame bytes
   pub some : 0 < used
   pub repairs : List Repair
   pub cuts : List Repair
-  pub salvaged : IsSalvaged window repairs cuts used (Some game)
+  pub salvaged : IsSalvaged bytes repairs cuts used (Some game)
 
-abbrev pub Explains : List ℕ → Stretch → Type 0
-Explains window (Good bytes game) = BeginsWithGame window game (length bytes)
-Explains window (Saved bytes game) = IsSavedFrom window (length bytes) game
-Explains window (Lost bytes) = HasNoGame window × GivesUp window (length bytes)
+abbrev pub IsEntryOf : List ℕ → ℕ → Entry → Type 0
+IsEntryOf bytes used (Good game) = BeginsWithGame bytes game used
+IsEntryOf bytes used (Saved game) = IsSavedFrom bytes used game
+IsEntryOf bytes used Passed = HasNoGame bytes × GivesUp bytes used
 
-abbrev pub Tiles : List ℕ → List Stretch → List ℕ → Type 0
-Tiles left [] rest = left ≡ rest
-Tiles left (s ∷ ss) rest = (window after : List ℕ) × IsLookedAt window left × Explains window s × (left ≡ bytes_of s ++ after) × Tiles after ss rest
-
--- of a game that was found, if it is asked for
 abbrev pub found_text : Form → ℕ → Bool → Option Game → List ℕ
 found_text form before asked (Some game) = if asked then text_in form before game else []
 found_text form before asked None = []
 
--- of a stretch after so many, if it is in the part
-abbrev pub text_of : Form → ℕ → Bool → Stretch → List ℕ
-text_of form before asked (Good bytes game) = if asked then text_in form before game else []
-text_of form before asked (Saved bytes game) = if asked then text_in form before game else []
-text_of form before asked (Lost bytes) = []
+abbrev pub text_of : Form → ℕ → Bool → Entry → List ℕ
+text_of form before asked (Good game) = found_text form before asked (Some game)
+text_of form before asked (Saved game) = found_text form before asked (Some game)
+text_of form before asked Passed = []
 
--- one of the part is passed over, or none
-abbrev pub loss_of : Bool → Stretch → ℕ
-loss_of asked (Good bytes game) = 0
-loss_of asked (Saved bytes game) = 0
-loss_of asked (Lost bytes) = if asked then 1 else 0
+-- of bytes that are passed over: a game of the part is counted
+abbrev pub lost_fate : Bool → Fate
+lost_fate asked = if asked then Lost else Left
 
--- after so many stretches
-abbrev pub saved_text : Form → Part → ℕ → List Stretch → List ℕ
-saved_text form part before [] = []
-saved_text form part before (s ∷ ss) = text_of form before (is_in part before) s ++ saved_text form part (before + 1) ss
+abbrev pub fate_in : Bool → Entry → Fate
+fate_in asked (Good game) = Read
+fate_in asked (Saved game) = Read
+fate_in asked Passed = lost_fate asked
 
--- after so many
-abbrev pub lost_count : Part → ℕ → List Stretch → ℕ
-lost_count part before [] = 0
-lost_count part before (s ∷ ss) = loss_of (is_in part before) s + lost_count part (before + 1) ss
+-- numbers count from 1
+abbrev pub IsSavedAs : Form → Part → ℕ → ℕ → List ℕ → ℕ → Fate → List ℕ → Type 0
+IsSavedAs form part number offset bytes used fate text =
+    (entry : Entry) × IsEntryOf bytes used entry × (fate ≡ fate_in (is_in part (number - 1)) entry) × (text ≡ text_of form (number - 1) (is_in part (number - 1)) entry)
 
-pub record IsSalvagedAll {R W : Type 0} (gives : R → List ℕ → R → Type 0) (failed : R → Bool) (ended : R → Type 0) (takes : W → List ℕ → W → Type 0) (write_failed : W → Bool) (form : Form) (part : Part) (source : R) (old new : W) (bad : ℕ) : Type 0 where
-  pub text : List ℕ
-  pub left : R
-  pub came : Carries gives source text left
-  pub well_read : failed left ≡ failed source
-  pub all : ended left
-  pub stretches : List Stretch
-  pub rest : List ℕ
-  pub tiles : Tiles text stretches rest
-  pub white : IsWhite rest
-  pub writes : Carries takes old (saved_text form part 0 stretches) new
-  pub well_written : write_failed new ≡ write_failed old
-  pub counted : bad ≡ lost_count part 0 stretches
+abbrev pub IsSavedIn : Option Letters → Form → Part → ℕ → ℕ → List ℕ → ℕ → Fate → List ℕ → Type 0
+IsSavedIn letters form part number offset bytes used fate text = (spelt : List ℕ) × IsInLetters letters bytes spelt × IsSavedAs form part number offset spelt used fate text
+
+abbrev pub SavingEnds : {R W : Type 0} → (R → List ℕ → R → Type 0) → (R → Bool) → (R → Type 0) → (W → List ℕ → W → Type 0) → (W → Bool) → Option Letters → Form → Part → R → W → W → Result Totals Failure → Type 0
+SavingEnds {R} gives failed ended takes write_failed letters form part source old new result =
+    (last : Window R) × GoesOver gives failed (λ number offset bytes used fate text. IsSavedIn letters form part number offset bytes used fate text) ended 1099511627776 (λ bytes. IsWhite bytes) takes write_failed (head_in form) source last old new result

@@ -1,3 +1,2 @@
 -- The words of the code's steps: why reading ends.
 pub mod Leaving
-pub mod Salvages

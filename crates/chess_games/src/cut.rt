@@ -5,13 +5,13 @@ ghost use Rattle.byte_streams.specs.Calls.{Carries};
 ghost use Rattle.chess_items.specs.Items.{is_name_byte};
 ghost use Rattle.chess_items.specs.Sections.{OpensTag};
 ghost use Rattle.chess_loop.specs.RunEnds.{Broken};
-ghost use Rattle.chess_programs.specs.declared.collection.Failure.TheVariants as by;
+ghost use Rattle.chess_command_line.specs.declared.collection.Failure.TheVariants as by;
 ghost use Rattle.chess_games.specs.declared.cut.CutFault.TheVariants as faults;
 ghost use Rattle.chess_games.specs.Pieces.{IsCut, IsCutInPart, IsMarked, IsStopped};
 
 use crate::put::put;
 use byte_streams::{Sink, Source};
-use chess_programs::Failure;
+use chess_command_line::Failure;
 use std::alloc::{AllocError, Allocator};
 
 /// The most bytes of a read.

@@ -13,8 +13,9 @@ use crate::form::Form;
 use crate::part::Part;
 use crate::put::put;
 use byte_streams::{Sink, Source};
+use chess_command_line::{Failure, GAMES, Progress};
 use chess_pgn::{FaultKind, Game, Games, GamesFault, PgnFault, Texts};
-use chess_programs::{Failure, GAMES, Progress};
+use chess_repair::Letters;
 use std::alloc::Allocator;
 
 /// What is asked of a run over games.
@@ -26,14 +27,12 @@ pub struct Wanted {
     pub part: Part,
     /// At the end a line with the number of games, of bytes, and of the bytes of bad games, on the standard error.
     pub totals: bool,
+    /// The letters of the men where bad games are salvaged, if they aren't the standard's.
+    pub letters: Option<Letters>,
 }
 
-/// Writes what stands before all games.
-pub fn put_head<A: Allocator, W: Sink>(
-    alloc: &A,
-    form: &Form,
-    writer: &mut W,
-) -> Result<(), Failure>
+// Writes what comes before all games.
+fn put_head<A: Allocator, W: Sink>(alloc: &A, form: &Form, writer: &mut W) -> Result<(), Failure>
     ensures all { OnOk result (Carries W.takes writer.old (head_in form.now) writer.new) }
     ensures well { OnOk result (W.failed writer.new ≡ W.failed writer.old) }
     ensures unwritten { IfErr result (λ failure. IsUnwritten W.takes W.failed (head_in form.now) writer.old writer.new failure) }
@@ -69,11 +68,11 @@ fn write_if<'a, A: Allocator, W: Sink>(
     put(writer, text.as_slice())
 }
 
-/// Why a run ends after the most games.
-pub const TOO_MANY: Failure = Failure::Read;
+// Why a run ends after the most games.
+const TOO_MANY: Failure = Failure::Read;
 
 // A line on the standard error with the number of a game, from 1, and its fault. A fault of the standard error is ignored.
-fn report(rt: &HostRuntime, number: u64, fault: PgnFault) {
+pub fn report(rt: &HostRuntime, number: u64, fault: PgnFault) {
     let (place, kind, name) = (fault.place, fault.kind.number(), fault.kind.name());
     let _ = eprintln!(rt; "game {number}: fault {place} {kind} {name}");
 }
@@ -85,7 +84,7 @@ fn report_totals(rt: &HostRuntime, games: u64, bytes: u64, passed: u64) {
 }
 
 // The same of the game after so many others, if it is asked for; how many lines that were.
-pub fn report_if(rt: &HostRuntime, is_asked: bool, before: u64, fault: PgnFault) -> u64
+fn report_if(rt: &HostRuntime, is_asked: bool, before: u64, fault: PgnFault) -> u64
     ensures count { result ≡ (if is_asked then 1 else 0) }
     ensures one { result ≤ 1 }
 {
@@ -185,7 +184,7 @@ fn filter_games<A: Allocator, R: Source + Drop, W: Sink>(
     write_good(rt, &alloc, wanted, &mut games, writer, progress)
 }
 
-/// Writes what stands before all games, and the good games of a part of the reader's games, each before the next is read, and reports the others of the part by
+/// Writes what comes before all games, and the good games of a part of the reader's games, each before the next is read, and reports the others of the part by
 /// number, place and fault on the standard error. Returns how many others there were in it.
 ///
 /// # Errors

@@ -4,7 +4,6 @@ ghost use Rattle.std.specs.Prelude.{◌≡◌, ◌<◌, IfOk};
 ghost use Rattle.chess_pgn.specs.steps.GameCode.{game_of};
 ghost use Rattle.chess_games.specs.Forms.{head_in, text_in};
 
-use chess_key::KeyTable;
 use chess_pgn::{Game, Texts, write_game_with};
 use chess_positions::{Layout, header, rows};
 use std::alloc::{AllocError, Allocator};
@@ -14,18 +13,18 @@ use std::alloc::{AllocError, Allocator};
 pub enum Form {
     /// In export form (PGN 3.2).
     Games,
-    /// As a row for each ply of its main line. The table serves the lines alone: nothing that is written depends on its words.
-    Rows { layout: Layout, table: KeyTable },
+    /// As a row for each ply of its main line.
+    Rows(Layout),
 }
 
 impl Form {
-    /// What stands before all games.
+    /// What comes before all games.
     pub fn head<'a, A: Allocator>(&self, alloc: &'a A) -> Result<Vec<u8, &'a A>, AllocError>
         ensures { IfOk result (λ text. text.items ≡ head_in self.now) }
     {
         match self {
             Form::Games => Ok(Vec::new(alloc)),
-            Form::Rows { layout, .. } => header(alloc, layout),
+            Form::Rows(layout) => header(alloc, layout),
         }
     }
 
@@ -45,7 +44,7 @@ impl Form {
                 Ok(text) => Ok(text),
                 Err(_) => Err(AllocError),
             },
-            Form::Rows { layout, table } => rows(alloc, layout, before + 1, game, table),
+            Form::Rows(layout) => rows(alloc, layout, before + 1, game),
         }
     }
 }

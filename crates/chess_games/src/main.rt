@@ -2,7 +2,8 @@
 //! output, as `chess pgn` does. At a game that can't be read it goes on: the standard error gets a line with the game's number, the place of
 //! the fault in bytes from the input's beginning, and its kind, and reading goes on at the next section of tags (`Games::pass_over`). With `--part K/N`
 //! only every N-th game is written or reported, from game K: N processes over the same input write all games together. With `--salvage` a bad game is
-//! repaired and read again, and what was repaired is reported. With `--format positions` a good game is written as rows, one for each ply of its main line
+//! repaired and read again, and what was repaired is reported; with `--letters KDTLS` all games are read with the standard's letters in place of these. With
+//! `--format positions` a good game is written as rows, one for each ply of its main line
 //! (`chess_positions`). With `--cut BYTES` the input is
 //! copied, with a zero byte between pieces of whole games, for as many processes.
 #![tactic(auto)]
@@ -13,11 +14,10 @@ mod form;
 mod part;
 mod put;
 mod salvaging;
-mod window;
 mod words;
 
 use byte_streams::{FromRead, ToWrite};
-use chess_programs::{FAILED, Progress, Refused, SOME_REFUSED, read_words};
+use chess_command_line::{FAILED, Progress, Refused, SOME_REFUSED, read_words};
 use cut::{CutFault, cut};
 use filter::{Wanted, filter};
 use salvaging::filter_saving;
@@ -36,7 +36,10 @@ fn run_filter(rt: &HostRuntime, wanted: Wanted, is_saving: bool, progress: bool)
     let reader = FromRead::new(rt.stdin());
     let mut writer = ToWrite::new(rt.stdout());
     let ended = if is_saving {
-        filter_saving(rt, rt.alloc(), wanted, reader, &mut writer, &mut progress)
+        match filter_saving(rt, rt.alloc(), wanted, reader, &mut writer, &mut progress) {
+            Ok(totals) => Ok(totals.bad),
+            Err(failure) => Err(failure),
+        }
     } else {
         filter(rt, rt.alloc(), wanted, reader, &mut writer, &mut progress)
     };

@@ -3,11 +3,11 @@
 ghost use Rattle.std.specs.Prelude.{◌≡◌, IfErr, OnOk};
 ghost use Rattle.byte_streams.specs.Calls.{Carries};
 ghost use Rattle.chess_loop.specs.RunEnds.{Broken};
-ghost use Rattle.chess_programs.specs.declared.collection.Failure.TheVariants as by;
+ghost use Rattle.chess_command_line.specs.declared.collection.Failure.TheVariants as by;
 
 use byte_streams::Sink;
+use chess_command_line::Failure;
 use chess_loop::write_all;
-use chess_programs::Failure;
 
 /// Writes all of the bytes.
 pub fn put<W: Sink>(writer: &mut W, bytes: &[u8]) -> Result<(), Failure>

@@ -1,53 +1,28 @@
 //! A collection whose bad games are salvaged: read from what their text is repaired to.
 
-ghost use Rattle.std.specs.Prelude.{◌≡◌, ◌≤◌, ◌<◌, if◌then◌else◌, [], true, false, None, Some, IfErr, IfOk, IfSome, OnOk, length};
-ghost use Rattle.byte_streams.specs.Calls.{Carries};
+ghost use Rattle.std.specs.Prelude.{◌≡◌, ◌≤◌, ◌<◌, ◌≢◌, ◌-◌, [], Some, None, IfErr, IfOk, IfSome, length};
 ghost use Rattle.chess_items.specs.Abandoned.{GivesUp};
+ghost use Rattle.chess_items.specs.declared.fault.FaultKind.TheVariants.{Memory};
 ghost use Rattle.chess_pgn.specs.Reading.{HasNoGame, IsWhite};
 ghost use Rattle.chess_pgn.specs.steps.GameCode.{game_of};
-ghost use Rattle.chess_salvage.specs.Salvaging.{found_in};
-ghost use Rattle.chess_games.specs.Filtered.{most_games};
-ghost use Rattle.chess_games.specs.Forms.{IsHeaded, text_in};
-ghost use Rattle.chess_games.specs.Salvaged.{IsSalvagedAll, found_text};
-ghost use Rattle.chess_games.specs.Windows.{Comes, KnowsItsEnd};
-ghost use Rattle.chess_games.specs.steps.Salvages.{IsNext, IsRead, IsSaved, IsWide, lost_if};
+ghost use Rattle.chess_repair.specs.Letters.{IsInLetters};
+ghost use Rattle.chess_salvage.specs.Salvaging.{IsSalvaged};
+ghost use Rattle.chess_collection.specs.Handling.{GoesOver};
+ghost use Rattle.chess_collection.specs.Windows.{KnowsItsEnd};
+ghost use Rattle.chess_games.specs.Forms.{head_in};
+ghost use Rattle.chess_games.specs.Parts.{is_in};
+ghost use Rattle.chess_command_line.specs.declared.collection.Failure.TheVariants as by;
+ghost use Rattle.chess_games.specs.Salvaged.{IsSavedAs, IsSavedIn, SavingEnds, found_text, lost_fate};
 
-use crate::filter::{TOO_MANY, Wanted, put_head, report_if};
-use crate::form::Form;
-use crate::put::put;
-use crate::window::Window;
+use crate::filter::{Wanted, report};
 use byte_streams::{Sink, Source};
+use chess_collection::{Fate, GameHandler, Handled, Totals, Window, go_over};
+use chess_command_line::{Failure, Place, Progress};
 use chess_items::given_up;
 use chess_pgn::{FaultKind, Game, PgnFault, Texts, read_game};
-use chess_programs::{Failure, GAMES, Progress};
+use chess_repair::{LETTER, respell};
 use chess_salvage::{Salvaged, salvage};
-use std::alloc::Allocator;
-
-/// How many bytes are at hand at the start of each game, at least, if there are so many: more than a game has.
-const LEAST: usize = 1_179_648;
-
-/// How many are read where there are fewer, so that bytes aren't moved for each game.
-const ENOUGH: usize = 3_276_800;
-
-/// What the bytes at hand begin with: a game, or bytes that are passed over.
-#[derive(Clone, Copy)]
-struct Found {
-    /// How many bytes that takes.
-    used: usize,
-    /// Why there is no game.
-    fault: Option<PgnFault>,
-}
-
-/// What there was so far.
-#[derive(Drop)]
-struct Sums {
-    /// Bytes that are used.
-    used: u64,
-    /// Those of them that were passed over.
-    passed: u64,
-    /// Repairs of all games.
-    repaired: u64,
-}
+use std::alloc::{AllocError, Allocator, Global};
 
 // A line on the standard error with the number of a game, from 1, and what was repaired in it. A fault of the standard error is ignored.
 fn report_repair(rt: &HostRuntime, number: u64, place: u64, name: &str) {
@@ -79,235 +54,18 @@ fn report_repairs<'a, A: Allocator>(
     }
 }
 
-// Where a game's repairs are reported: its number, from 1, and its first byte.
-fn report_place(is_asked: bool, before: u64, from: u64) -> Option<(u64, u64)> {
-    if is_asked {
-        Some((before.saturating_add(1), from))
-    } else {
-        None
-    }
-}
-
-// A line on the standard error with the number of all games and of their bytes, of the bytes that were passed over, and of what was repaired, if it is
-// wanted. A fault of the standard error is ignored.
-fn report_sums(rt: &HostRuntime, is_wanted: bool, games: u64, sums: &Sums, left: usize) {
-    if is_wanted {
-        let bytes = sums.used.saturating_add(left as u64);
-        let (passed, repaired) = (sums.passed, sums.repaired);
-        let _ = eprintln!(rt;
-            "games {games}, bytes {bytes}, passed over {passed}, repaired {repaired}"
-        );
-    }
-}
-
-impl Sums {
-    // What comes next is used.
-    fn add(&mut self, found: Found) {
-        self.used = self.used.saturating_add(found.used as u64);
-        if found.fault.is_some() {
-            self.passed = self.passed.saturating_add(found.used as u64);
-        }
-    }
-}
-
-// Writes the game that was found, if it is asked for.
-fn write_found<'a, A: Allocator, W: Sink>(
-    alloc: &'a A,
-    form: &Form,
-    is_asked: bool,
-    before: u64,
-    game: &Option<Game<'a, A>>,
-    writer: &mut W,
-) -> Result<(), Failure>
-    requires few { before < most_games }
-    ensures all { OnOk result (Carries W.takes writer.old (found_text form.now before is_asked (found_in game.now)) writer.new) }
-    ensures well { OnOk result (W.failed writer.new ≡ W.failed writer.old) }
-{
-    let Some(game) = game else {
-        return Ok(());
-    };
-    if !is_asked {
-        return Ok(());
-    }
-    let Ok(text) = form.text(alloc, before, game, &Texts::new(alloc)) else {
-        return Err(Failure::Memory);
-    };
-    put(writer, text.as_slice())
-}
-
-// Reads the game at hand strictly: how many bytes it has, `None` where there is white space alone up to the end; or its fault.
-fn read_at_hand<'a, A: Allocator, R: Source>(
-    alloc: &'a A,
-    window: &mut Window<'a, R, A>,
-    game: &mut Option<Game<'a, A>>,
-) -> Result<Result<Option<usize>, PgnFault>, Failure>
-    requires none { game.old ≡ None }
-    requires sound { KnowsItsEnd R.ended window.old }
-    requires wide { IsWide window.old }
-    ensures came { IfOk result (λ _. Comes R.gives R.failed window.old window.new) }
-    ensures sound { IfOk result (λ _. KnowsItsEnd R.ended window.new) }
-    ensures wide { IfOk result (λ _. IsWide window.new) }
-    ensures read { IfOk result (λ found. IsRead window.new (found_in game.new) found) }
-    ensures fault { IfOk result (λ found. IfErr found (λ _. game.new ≡ None)) }
-{
-    loop {
-        match read_game(alloc, window.unread()) {
-            Ok(Some((found, used))) => {
-                *game = Some(found);
-                return Ok(Ok(Some(used)));
-            }
-            Ok(None) => {}
-            Err(fault) => {
-                return match fault.kind {
-                    FaultKind::Memory => Err(Failure::Memory),
-                    _ => Ok(Err(fault)),
-                };
-            }
-        }
-        if window.has_ended() {
-            return Ok(Ok(None));
-        }
-        // White space as far as the bytes at hand go: as many again, and once more.
-        let most = window.unread().len().saturating_mul(2);
-        window.read_more()?;
-        window.fill(most)?;
-    }
-}
-
-// Salvages the game at the start of a text, which can't be read: how many bytes that takes; `None` where there is no game.
-fn save<'a, A: Allocator>(
-    rt: &HostRuntime,
-    alloc: &'a A,
-    text: &[u8],
-    report: Option<(u64, u64)>,
-    game: &mut Option<Game<'a, A>>,
-    repaired: &mut u64,
-) -> Result<Option<usize>, Failure>
-    requires game { game.old ≡ None }
-    requires none { HasNoGame text.now }
-    ensures saved { IfOk result (λ used. IfSome used (λ n. IsSaved text.now n (found_in game.new))) }
-    ensures nothing { IfOk result (λ used. used ≡ None → game.new ≡ None) }
-{
-    let Ok(found) = salvage(alloc, text) else {
-        return Err(Failure::Memory);
-    };
-    if found.game.is_none() || found.used == 0 {
-        return Ok(None);
-    }
-    if let Some((number, from)) = report {
-        report_repairs(rt, number, from, &found);
-    }
-    *repaired = repaired
-        .saturating_add(found.repairs.len() as u64)
-        .saturating_add(found.cuts.len() as u64);
-    let used = found.used;
-    *game = found.game;
-    Ok(Some(used))
-}
-
-// The same, or how many bytes are passed over.
-fn save_or_pass<'a, A: Allocator>(
-    rt: &HostRuntime,
-    alloc: &'a A,
-    text: &[u8],
-    fault: PgnFault,
-    report: Option<(u64, u64)>,
-    game: &mut Option<Game<'a, A>>,
-    repaired: &mut u64,
-) -> Result<Found, Failure>
-    requires game { game.old ≡ None }
-    requires none { HasNoGame text.now }
-    ensures next { IfOk result (λ found. IsNext text.now (found_in game.new) found) }
-{
-    match save(rt, alloc, text, report, game, repaired)? {
-        Some(used) => Ok(Found { used, fault: None }),
-        None => Ok(Found {
-            used: given_up(text),
-            fault: Some(fault),
-        }),
-    }
-}
-
-// What comes next; `None` where there is white space alone up to the end.
-fn next_found<'a, A: Allocator, R: Source>(
-    rt: &HostRuntime,
-    alloc: &'a A,
-    window: &mut Window<'a, R, A>,
-    report: Option<(u64, u64)>,
-    game: &mut Option<Game<'a, A>>,
-    repaired: &mut u64,
-) -> Result<Option<Found>, Failure>
-    requires game { game.old ≡ None }
-    requires sound { KnowsItsEnd R.ended window.old }
-    ensures came { IfOk result (λ _. Comes R.gives R.failed window.old window.new) }
-    ensures sound { IfOk result (λ _. KnowsItsEnd R.ended window.new) }
-    ensures wide { IfOk result (λ _. IsWide window.new) }
-    ensures next { IfOk result (λ found. IfSome found (λ f. IsNext window.new.bytes (found_in game.new) f)) }
-    ensures end { IfOk result (λ found. found ≡ None → (window.new.has_ended ≡ true) × IsWhite window.new.bytes) }
-{
-    window.fill_from(LEAST, ENOUGH)?;
-    match read_at_hand(alloc, window, game)? {
-        Ok(None) => Ok(None),
-        Ok(Some(used)) => Ok(Some(Found { used, fault: None })),
-        Err(fault) => {
-            let found = save_or_pass(rt, alloc, window.unread(), fault, report, game, repaired)?;
-            Ok(Some(found))
-        }
-    }
-}
-
-// Reports a game that is passed over, of the part; how many those are.
-fn report_lost(
-    rt: &HostRuntime,
-    is_asked: bool,
-    before: u64,
-    fault: Option<PgnFault>,
-    from: u64,
-) -> u64
-    ensures count { result ≡ lost_if is_asked fault }
-    ensures one { result ≤ 1 }
-{
-    match fault {
-        None => 0,
-        Some(fault) => report_if(rt, is_asked, before, placed(fault, from)),
-    }
-}
-
-// Writes the good and the saved games of a part; how many others there were in it.
-fn write_saved<'a, A: Allocator, R: Source, W: Sink>(
-    rt: &HostRuntime,
-    alloc: &'a A,
-    wanted: &Wanted,
-    window: &mut Window<'a, R, A>,
-    writer: &mut W,
-    progress: &mut Progress<'_>,
-) -> Result<u64, Failure>
-    requires sound { KnowsItsEnd R.ended window.old }
-    requires fresh { window.old.bytes ≡ [] }
-    ensures good { IfOk result (λ bad. IsSalvagedAll R.gives R.failed R.ended W.takes W.failed wanted.now.form wanted.now.part window.old.source writer.old writer.new bad) }
-{
-    let mut bad = 0u64;
-    let mut sums = Sums {
-        used: 0,
-        passed: 0,
-        repaired: 0,
-    };
-    for before in 0..GAMES {
-        progress.show(sums.used, before);
-        let is_asked = wanted.part.has(before);
-        let report = report_place(is_asked, before, sums.used);
-        let mut game = None;
-        let Some(found) = next_found(rt, alloc, window, report, &mut game, &mut sums.repaired)?
-        else {
-            report_sums(rt, wanted.totals, before, &sums, window.unread().len());
-            return Ok(bad);
-        };
-        write_found(alloc, &wanted.form, is_asked, before, &game, writer)?;
-        bad += report_lost(rt, is_asked, before, found.fault, sums.used);
-        window.use_first(found.used);
-        sums.add(found);
-    }
-    Err(TOO_MANY)
+// A line on the standard error with the number of all games and of their bytes, of the bytes that were passed over, and of what was repaired. A fault of the
+// standard error is ignored.
+fn report_sums(rt: &HostRuntime, totals: &Totals) {
+    let (games, bytes, passed, repaired) = (
+        totals.games,
+        totals.bytes,
+        totals.passed,
+        totals.repaired,
+    );
+    let _ = eprintln!(rt;
+        "games {games}, bytes {bytes}, passed over {passed}, repaired {repaired}"
+    );
 }
 
 // A fault with its place after so many bytes.
@@ -318,24 +76,241 @@ fn placed(fault: PgnFault, from: u64) -> PgnFault {
     }
 }
 
-/// Writes what stands before all games, the good games of a part of the reader's games, and of a bad game what strict reading gives of its text after
-/// repair, if it gives one; what was repaired is reported on the standard error by number, place and name, and a game that can't be saved by number, place
-/// and fault. Returns how many of those there were in the part.
+/// Writes the good games of a part, and those that are saved.
+#[derive(Drop)]
+struct Saver<'a> {
+    rt: &'a HostRuntime,
+    alloc: &'a Global,
+    wanted: &'a Wanted,
+}
+
+impl<'a> Saver<'a> {
+    // Whether a game is of the part.
+    fn has(&self, place: Place) -> bool
+        ensures { result ≡ is_in self.now.wanted.now.part (place.number - 1) }
+    {
+        self.wanted.part.has(place.number.saturating_sub(1))
+    }
+
+    // What is written of a game.
+    fn written(&self, place: Place, game: &Game<'a, Global>) -> Result<Vec<u8>, AllocError>
+        requires first { 1 ≤ place.number }
+        requires few { place.number ≤ 144115188075855872 }
+        ensures { IfOk result (λ text. text.items ≡ found_text self.now.wanted.now.form (place.number - 1) (is_in self.now.wanted.now.part (place.number - 1)) (Some (game_of game.now))) }
+    {
+        if !self.has(place) {
+            return Ok(Vec::new(*self.alloc));
+        }
+        let texts = Texts::new(self.alloc);
+        let text = self
+            .wanted
+            .form
+            .text(self.alloc, place.number - 1, game, &texts)?;
+        Vec::from_slice(*self.alloc, text.as_slice())
+    }
+
+    // What becomes of a game that is saved.
+    fn saved(
+        &self,
+        place: Place,
+        bytes: &[u8],
+        found: &Salvaged<'a, Global>,
+        game: &Game<'a, Global>,
+    ) -> Result<Handled, AllocError>
+        requires first { 1 ≤ place.number }
+        requires few { place.number ≤ 144115188075855872 }
+        requires none { HasNoGame bytes.now }
+        requires some { 0 < found.now.used }
+        requires salvaged { IsSalvaged bytes.now found.now.repairs.items found.now.cuts.items found.now.used (Some (game_of game.now)) }
+        ensures fits { IfOk result (λ h. h.used ≤ length bytes.now) }
+        ensures row { IfOk result (λ h. IsSavedAs self.now.wanted.now.form self.now.wanted.now.part place.number place.offset bytes.now h.used h.fate h.text.items) }
+    {
+        if self.has(place) {
+            report_repairs(self.rt, place.number, place.offset, found);
+        }
+        let text = self.written(place, game)?;
+        let cuts = found.cuts.len() as u64;
+        Ok(Handled {
+            used: found.used,
+            fate: Fate::Read,
+            repaired: (found.repairs.len() as u64).saturating_add(cuts),
+            text,
+        })
+    }
+
+    // What a game that is passed over is.
+    fn lost_fate(&self, place: Place, fault: PgnFault) -> Fate
+        ensures { result ≡ lost_fate (is_in self.now.wanted.now.part (place.number - 1)) }
+    {
+        if self.has(place) {
+            report(self.rt, place.number, placed(fault, place.offset));
+            return Fate::Lost;
+        }
+        Fate::Left
+    }
+
+    // What becomes of a game that can't be read.
+    fn bad(&self, place: Place, bytes: &[u8], fault: PgnFault) -> Result<Handled, AllocError>
+        requires first { 1 ≤ place.number }
+        requires few { place.number ≤ 144115188075855872 }
+        requires none { HasNoGame bytes.now }
+        ensures fits { IfOk result (λ h. h.used ≤ length bytes.now) }
+        ensures row { IfOk result (λ h. IsSavedAs self.now.wanted.now.form self.now.wanted.now.part place.number place.offset bytes.now h.used h.fate h.text.items) }
+    {
+        let found = salvage(self.alloc, bytes)?;
+        if let Some(game) = &found.game {
+            if found.used > 0 {
+                return self.saved(place, bytes, &found, game);
+            }
+        }
+        Ok(Handled {
+            used: given_up(bytes),
+            fate: self.lost_fate(place, fault),
+            repaired: 0,
+            text: Vec::new(*self.alloc),
+        })
+    }
+
+    // What becomes of the game that a text begins with, in the standard's letters.
+    fn spelt(&self, place: Place, bytes: &[u8]) -> Result<Option<Handled>, Failure>
+        requires first { 1 ≤ place.number }
+        requires few { place.number ≤ 144115188075855872 }
+        ensures fits { IfOk result (λ found. IfSome found (λ h. h.used ≤ length bytes.now)) }
+        ensures row { IfOk result (λ found. IfSome found (λ h. IsSavedAs self.now.wanted.now.form self.now.wanted.now.part place.number place.offset bytes.now h.used h.fate h.text.items)) }
+        ensures white { IfOk result (λ found. found ≡ None → IsWhite bytes.now) }
+        ensures memory { IfErr result (λ failure. failure ≡ by.Memory) }
+    {
+        match read_game(self.alloc, bytes) {
+            Ok(None) => Ok(None),
+            Ok(Some((game, used))) => match self.written(place, &game) {
+                Ok(text) => Ok(Some(Handled {
+                    used,
+                    fate: Fate::Read,
+                    repaired: 0,
+                    text,
+                })),
+                Err(_) => Err(Failure::Memory),
+            },
+            Err(fault) => match fault.kind {
+                FaultKind::Memory => Err(Failure::Memory),
+                _ => match self.bad(place, bytes, fault) {
+                    Ok(handled) => Ok(Some(handled)),
+                    Err(_) => Err(Failure::Memory),
+                },
+            },
+        }
+    }
+
+    // How many letters at these places are of the first bytes, so many; they are reported.
+    fn report_letters(&self, place: Place, places: &[usize], used: usize) -> u64 {
+        let mut count = 0u64;
+        for at in places {
+            if *at < used {
+                count = count.saturating_add(1);
+                if self.has(place) {
+                    let at = place.offset.saturating_add(*at as u64);
+                    report_repair(self.rt, place.number, at, LETTER);
+                }
+            }
+        }
+        count
+    }
+
+    // The same of a game with letters at these places written otherwise, where it is read.
+    fn letters(&self, place: Place, places: &[usize], used: usize, fate: Fate) -> u64 {
+        match fate {
+            Fate::Read => self.report_letters(place, places, used),
+            Fate::Lost | Fate::Left => 0,
+        }
+    }
+}
+
+impl GameHandler for Saver<'_> {
+    ghost use Rattle.chess_pgn.specs.Reading.{IsWhite};
+    ghost use Rattle.chess_games.specs.Salvaged.{IsSavedIn};
+
+    ghost handles = { λ s number offset bytes used fate text. IsSavedIn s.wanted.now.letters s.wanted.now.form s.wanted.now.part number offset bytes used fate text };
+
+    ghost white = { λ bytes. IsWhite bytes };
+
+    #[tactic(auto, using(crate::proofs::SavingLemmas::saved_in))]
+    fn handle(&self, place: Place, bytes: &[u8]) -> Result<Option<Handled>, Failure> {
+        match respell(self.alloc, self.wanted.letters, bytes) {
+            Ok(Some(respelled)) => match self.spelt(place, respelled.text.as_slice()) {
+                Ok(Some(handled)) => {
+                    let Handled {
+                        used,
+                        fate,
+                        repaired,
+                        text,
+                    } = handled;
+                    let letters = self.letters(place, respelled.places.as_slice(), used, fate);
+                    Ok(Some(Handled {
+                        used,
+                        fate,
+                        repaired: repaired.saturating_add(letters),
+                        text,
+                    }))
+                }
+                Ok(None) => self.spelt(place, bytes),
+                Err(failure) => Err(failure),
+            },
+            Ok(None) => self.spelt(place, bytes),
+            Err(_) => Err(Failure::Memory),
+        }
+    }
+}
+
+// Writes what comes before all games, and then the good and the saved ones.
+fn save_all<'a, R: Source, W: Sink>(
+    rt: &'a HostRuntime,
+    alloc: &'a Global,
+    wanted: &'a Wanted,
+    window: &mut Window<'a, R, Global>,
+    writer: &mut W,
+    progress: &mut Progress<'_>,
+) -> Result<Totals, Failure>
+    requires sound { KnowsItsEnd R.ended window.old }
+    requires fresh { window.old.bytes ≡ [] }
+    requires reads { window.old.reads ≤ 1099511627776 }
+    ensures { GoesOver R.gives R.failed (λ number offset bytes used fate text. IsSavedIn wanted.now.letters wanted.now.form wanted.now.part number offset bytes used fate text) R.ended window.old.reads (λ bytes. IsWhite bytes) W.takes W.failed (head_in wanted.now.form) window.old.source window.new writer.old writer.new result }
+{
+    let Ok(head) = wanted.form.head(alloc) else {
+        return Err(Failure::Memory);
+    };
+    let saver = Saver { rt, alloc, wanted };
+    go_over(*alloc, &saver, head.as_slice(), window, writer, progress)
+}
+
+// Says how much there was, if that is wanted.
+fn report_ended(rt: &HostRuntime, is_wanted: bool, ended: &Result<Totals, Failure>) {
+    if let Ok(totals) = ended {
+        if is_wanted {
+            report_sums(rt, totals);
+        }
+    }
+}
+
+/// Writes what comes before all games, the good games of a part of the reader's games, and of a bad game what strict reading gives of its text after
+/// repair, if it gives one. Where letters of a language are given, each text is read with letters of men as the standard has them. What was repaired is
+/// reported on the standard error by number, place and name, and a game that can't be saved by number, place and fault. Returns how many of those there were
+/// in the part, and how much there was.
 ///
 /// # Errors
 ///
 /// The first failure of a stream, or want of memory; what was written before it stays written.
-pub fn filter_saving<A: Allocator, R: Source + Drop, W: Sink>(
+pub fn filter_saving<R: Source + Drop, W: Sink>(
     rt: &HostRuntime,
-    alloc: A,
+    alloc: Global,
     wanted: Wanted,
     reader: R,
     writer: &mut W,
     progress: &mut Progress<'_>,
-) -> Result<u64, Failure>
-    ensures good { IfOk result (λ bad. IsHeaded W.takes W.failed wanted.form writer.old (λ mid. IsSalvagedAll R.gives R.failed R.ended W.takes W.failed wanted.form wanted.part reader mid writer.new bad)) }
+) -> Result<Totals, Failure>
+    ensures { SavingEnds R.gives R.failed R.ended W.takes W.failed wanted.letters wanted.form wanted.part reader writer.old writer.new result }
 {
-    put_head(&alloc, &wanted.form, writer)?;
     let mut window = Window::new(&alloc, reader);
-    write_saved(rt, &alloc, &wanted, &mut window, writer, progress)
+    let ended = save_all(rt, &alloc, &wanted, &mut window, writer, progress);
+    report_ended(rt, wanted.totals, &ended);
+    ended
 }

@@ -2,9 +2,9 @@ use crate::filter::Wanted;
 use crate::form::Form;
 use crate::part::{Part, positive};
 use arrayvec::ArrayVec;
-use chess_key::KeyTable;
+use chess_command_line::{Refused, VERSION, flag, option, progress_flag, why_refused};
 use chess_positions::{Column, Format, Layout};
-use chess_programs::{Refused, VERSION, flag, option, progress_flag, why_refused};
+use chess_repair::Letters;
 use clap::{Arg, Command, Error};
 use std::alloc::Global;
 use std::convert::AsStr;
@@ -29,7 +29,9 @@ const ABOUT: &str =
 const AFTER: &str = "\
 Of each game that can't be read the standard error has a line `game NUMBER: fault PLACE KIND NAME`; reading goes on
 at the next `[` that opens a tag and is first on its line. With `--salvage` such a game is repaired and read again, where
-that can be, and has a line `game NUMBER: repaired PLACE NAME` for each repair; one that is saved is a good one. With `--part K/N` only the games K, K + N, K + 2 N .. are
+that can be, and has a line `game NUMBER: repaired PLACE NAME` for each repair; one that is saved is a good one. With
+`--letters KDTLS` the games have these letters for king, queen, rook, bishop and knight; each is read with the standard's
+in their place. With `--part K/N` only the games K, K + N, K + 2 N .. are
 written or reported, so that N processes over one file write all of them. With `--cut BYTES` the input is copied, with a
 zero byte between pieces of whole games, at least so many bytes each; a process over each piece with `--totals` writes
 its games. With `--format positions` a good game is written as a row for each ply of its main line, as comma-separated
@@ -52,6 +54,18 @@ For more information, try '--help'.
 
 const NO_COLUMNS: &str = "\
 error: the value for '--columns <columns>' is names of columns with commas between them, each once
+
+For more information, try '--help'.
+";
+
+const NO_LETTERS: &str = "\
+error: the value for '--letters <letters>' is five different capital letters, the king's, queen's, rook's, bishop's and knight's
+
+For more information, try '--help'.
+";
+
+const NOT_SALVAGED: &str = "\
+error: '--letters <letters>' goes with '--salvage'
 
 For more information, try '--help'.
 ";
@@ -98,10 +112,21 @@ fn form_of(format: Option<&str>, columns: Option<&str>) -> Result<Form, &'static
     let Some(columns) = columns else {
         return Err(NO_COLUMNS);
     };
-    Ok(Form::Rows {
-        layout: Layout { format, columns },
-        table: KeyTable::fixed(),
-    })
+    Ok(Form::Rows(Layout { format, columns }))
+}
+
+// The letters of the men, by the value of `--letters`; the refusal where it is none, or bad games aren't salvaged.
+fn letters_of(letters: Option<&str>, is_saving: bool) -> Result<Option<Letters>, &'static str> {
+    let Some(text) = letters else {
+        return Ok(None);
+    };
+    if !is_saving {
+        return Err(NOT_SALVAGED);
+    }
+    match Letters::parse(text) {
+        Some(letters) => Ok(Some(letters)),
+        None => Err(NO_LETTERS),
+    }
 }
 
 // What the words ask for; the refusal where a value is none.
@@ -122,6 +147,11 @@ fn matched<S: AsStr>(alloc: Global, words: &[S]) -> Result<Result<Words, &'stati
         "salvage",
         "repair games that can't be read, with a line on the standard error for each repair",
     );
+    let letters = option(
+        alloc,
+        "letters",
+        "with --salvage, the letters of king, queen, rook, bishop and knight in the games, as KDTLS",
+    );
     let format = Arg::new(alloc, "format")
         .long("format")
         .help(
@@ -141,6 +171,7 @@ fn matched<S: AsStr>(alloc: Global, words: &[S]) -> Result<Result<Words, &'stati
         .arg(cut)?
         .arg(totals)?
         .arg(salvage)?
+        .arg(letters)?
         .arg(format)?
         .arg(columns)?
         .arg(progress_flag(alloc))?;
@@ -161,9 +192,18 @@ fn matched<S: AsStr>(alloc: Global, words: &[S]) -> Result<Result<Words, &'stati
     };
     let totals = matches.get_flag("totals");
     let is_saving = matches.get_flag("salvage");
+    let letters = match letters_of(matches.get_str("letters"), is_saving) {
+        Ok(letters) => letters,
+        Err(wrong) => return Ok(Err(wrong)),
+    };
     let progress = matches.get_flag("progress");
     Ok(Ok(Words::Filter {
-        wanted: Wanted { form, part, totals },
+        wanted: Wanted {
+            form,
+            part,
+            totals,
+            letters,
+        },
         is_saving,
         progress,
     }))

@@ -2,3 +2,4 @@
 pub mod Words
 pub mod Repairs
 pub mod Spelled
+pub mod Letters

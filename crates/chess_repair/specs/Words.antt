@@ -1,14 +1,14 @@
 -- Bytes and words of games as people write them.
 --   is_kept     a byte of names, or one beyond ASCII: what no repair of a tag may lose
---   Sense       what of a text is looked at: those bytes, or what a move's text spoken
---   spoken        what a byte spoken in a sense
---   letters     what a text spoken in the first
---   core_byte   what a byte of a move's text spoken: nothing, where it is a sign; a letter in any size, and a circle of castling, are one
---   core        what a move's text spoken: the man, the squares, the promotion and check
+--   Sense       what of a text is looked at: those bytes, or what a move's text says
+--   spoken      what a byte says in a sense
+--   letters     what a text says in the first
+--   core_byte   what a byte of a move's text says: nothing, where it is a sign; a letter in any size, and a circle of castling, are one
+--   core        what a move's text says: the man, the squares, the promotion and check
 --   is_right    a castling right, or the sign of none
 --   quiet       a byte as it may be in a comment: no brace, and no bracket
---   number_for    the annotation number for a word of evaluation, as it is written
---   is_said     words that the move spoken itself
+--   number_for  the annotation number for a word of evaluation, as it is written
+--   is_said     words for what the move itself says
 --   result_of   the marker for a result in another form
 --   castling_of  castling for the squares of king and rook
 --   sign_of     what is written for a dash, a sign of captures or a figurine of UTF-8 within a word

@@ -13,8 +13,8 @@ use chess_items::is;
 /// The most bytes of a move that is mended.
 const MOST: usize = 14;
 
-// The text without the signs of check and mate at its end.
-fn before_checks(text: &[u8]) -> &[u8] {
+/// The text without the signs of check and mate at its end.
+pub fn before_checks(text: &[u8]) -> &[u8] {
     let checks = text
         .iter()
         .rev()
@@ -23,11 +23,13 @@ fn before_checks(text: &[u8]) -> &[u8] {
     &text[..text.len().saturating_sub(checks)]
 }
 
-fn is_file(b: u8) -> bool {
+/// A file's letter.
+pub fn is_file(b: u8) -> bool {
     matches!(b, b'a'..=b'h')
 }
 
-fn is_rank(b: u8) -> bool {
+/// A rank's digit.
+pub fn is_rank(b: u8) -> bool {
     matches!(b, b'1'..=b'8')
 }
 
@@ -143,8 +145,8 @@ fn plain_byte(before: Option<u8>, b: u8, next: Option<u8>) -> (u8, u8) {
     }
 }
 
-// What comes before the man of a promotion: its square's rank, or a sign.
-fn ends_square(b: u8) -> bool {
+/// What comes before the man of a promotion: its square's rank, or a sign.
+pub fn ends_square(b: u8) -> bool {
     matches!(b, b'1' | b'8' | b'=' | b'/' | b'(')
 }
 

@@ -107,8 +107,8 @@ impl<'t, 'a, A: Allocator> Pen<'t, 'a, A> {
         self.rest
     }
 
-    // How many bytes are.
-    fn at(&self) -> usize {
+    /// How many bytes are.
+    pub fn at(&self) -> usize {
         self.text.len().saturating_sub(self.rest.len())
     }
 

@@ -5,6 +5,7 @@ ghost use Rattle.chess_repair.specs.Repairs.{IsRepair, SaysNothing, quoted};
 ghost use Rattle.chess_repair.specs.Words.{letters};
 ghost use Rattle.chess_repair.specs.Spelled.{IsRewritten};
 
+use crate::letters::Letters;
 use crate::marks::{
     after, are_glyphs, blanks, digits, glyphs, is_blank, is_name, len_to, lump_len, say_nothing,
 };
@@ -45,6 +46,10 @@ pub struct Spelled<'a, A: Allocator> {
 struct Spelling<'t, 'a, A: Allocator> {
     alloc: &'a A,
     pen: Pen<'t, 'a, A>,
+    /// The letters of a language, where the text may have those.
+    letters: Option<Letters>,
+    /// Where they are to be written otherwise.
+    places: Vec<usize, &'a A>,
     /// How many variations are open.
     depth: u32,
     has_tags: bool,
@@ -223,6 +228,25 @@ fn parenthesis(text: &[u8]) -> usize {
 }
 
 impl<'t, 'a, A: Allocator> Spelling<'t, 'a, A> {
+    // At the beginning of a text.
+    fn new(alloc: &'a A, letters: Option<Letters>, text: &'t [u8]) -> Spelling<'t, 'a, A>
+        ensures { result ≡ text.now }
+    {
+        Spelling {
+            alloc,
+            pen: Pen::new(alloc, text),
+            letters,
+            places: Vec::new(alloc),
+            depth: 0,
+            has_tags: false,
+            has_moves: false,
+            is_over: false,
+            last: Last::Nothing,
+            is_apart: true,
+            is_nested: false,
+        }
+    }
+
     fn keep(&mut self, len: usize, last: Last) -> Result<(), AllocError>
         ensures { self.new ≡ self.old }
     {
@@ -495,6 +519,21 @@ impl<'t, 'a, A: Allocator> Spelling<'t, 'a, A> {
         self.unknown(rest, word.len())
     }
 
+    // Keeps a word with a letter that is to be written otherwise. Whether it has one.
+    fn letter(&mut self, word: &[u8], next: &[u8]) -> Result<bool, AllocError>
+        ensures { self.new ≡ self.old }
+    {
+        let Some(letters) = self.letters else {
+            return Ok(false);
+        };
+        let Some(at) = letters.place_in(word, next) else {
+            return Ok(false);
+        };
+        self.places.push(self.pen.at().saturating_add(at))?;
+        self.keep_moves(word.len(), Last::Noted)?;
+        Ok(true)
+    }
+
     // Bytes up to a space or a sign: a sign of a word, a word, or what is around one.
     fn lump(&mut self, rest: &[u8], lump: &[u8]) -> Result<(), AllocError>
         ensures { self.new ≡ self.old }
@@ -523,6 +562,9 @@ impl<'t, 'a, A: Allocator> Spelling<'t, 'a, A> {
             ))
             .count();
         let word = &lump[..len.min(lump.len())];
+        if self.letter(word, after(rest, word.len()))? {
+            return Ok(());
+        }
         let e = len.saturating_sub(1);
         let said = en_passant(after(rest, e));
         if is_said(said) && (e == 0 || self.one_move(&word[..e.min(word.len())])?) {
@@ -615,6 +657,8 @@ impl<'t, 'a, A: Allocator> Spelling<'t, 'a, A> {
         let Spelling {
             alloc: _,
             pen,
+            letters: _,
+            places: _,
             depth: _,
             has_tags: _,
             has_moves: _,
@@ -658,6 +702,19 @@ impl<'t, 'a, A: Allocator> Spelling<'t, 'a, A> {
             }
         }
     }
+
+    // All items.
+    fn run(&mut self, len: usize) -> Result<(), AllocError>
+        ensures { self.new ≡ self.old }
+    {
+        for _ in 0..len {
+            if self.is_over || self.pen.rest().is_empty() {
+                break;
+            }
+            self.step()?;
+        }
+        self.close()
+    }
 }
 
 /// The text of the game at the start of a text, up to the next game, with what strict reading refuses wherever it is written as it was meant.
@@ -668,23 +725,23 @@ impl<'t, 'a, A: Allocator> Spelling<'t, 'a, A> {
 pub fn spell<'a, A: Allocator>(alloc: &'a A, text: &[u8]) -> Result<Spelled<'a, A>, AllocError>
     ensures { IfOk result (λ s. IsRewritten text.now s) }
 {
-    let mut spelling = Spelling {
-        alloc,
-        pen: Pen::new(alloc, text),
-        depth: 0,
-        has_tags: false,
-        has_moves: false,
-        is_over: false,
-        last: Last::Nothing,
-        is_apart: true,
-        is_nested: false,
-    };
-    for _ in 0..text.len() {
-        if spelling.is_over || spelling.pen.rest().is_empty() {
-            break;
-        }
-        spelling.step()?;
-    }
-    spelling.close()?;
+    let mut spelling = Spelling::new(alloc, None, text);
+    spelling.run(text.len())?;
     spelling.finish()
+}
+
+/// The places of the letters of men in the moves of that game which the standard has otherwise.
+///
+/// # Errors
+///
+/// There is no memory.
+pub fn letters_in<'a, A: Allocator>(
+    alloc: &'a A,
+    letters: Letters,
+    text: &[u8],
+) -> Result<Vec<usize, &'a A>, AllocError> {
+    let mut spelling = Spelling::new(alloc, Some(letters), text);
+    spelling.run(text.len())?;
+    let Spelling { places, .. } = spelling;
+    Ok(places)
 }

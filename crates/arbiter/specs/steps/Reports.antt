@@ -9,13 +9,14 @@ use Rattle.chess_types.specs.board.Lines.{last}
 use Rattle.chess_types.specs.board.Men.{colour_number}
 use Rattle.chess_types.specs.board.Outcome.{is_play, status, winner, status_text}
 use Rattle.chess_types.specs.board.Position.{PositionParts}
+use Rattle.chess_collection.specs.Headings.{Heading}
 use Rattle.chess_pgn.specs.Games.{Game, Tags, tag_value}
 use Rattle.chess_items.specs.Markers.{outcome_text}
 use Rattle.chess_report.specs.MainLine.{as_far, main}
 use Rattle.chess_report.specs.Findings.{agrees, is_open, first_fifty, first_over, first_threefold, longest_quiet, most_repetitions, played_on}
 use Rattle.chess_report.specs.declared.report.Report.{Report}
 use Rattle.arbiter.specs.Cells.{Cell, Number, Text, Truth, maybe}
-use Rattle.arbiter.specs.Rows.{colour_text, is_other_variant, start_text, wins_bare}
+use Rattle.arbiter.specs.Rows.{colour_text, fen_tag, is_another, is_changed, is_other_variant, start_text, wins_bare}
 
 -- its last position ends the game, and its marker is open
 abbrev pub is_unended : Report → Bool
@@ -32,11 +33,15 @@ move_by start (Some zero) = None
 move_by start (Some (suc plies)) = Some (number_of_move start plies)
 
 -- what a report of a game with that start says, whose first and last positions have those FENs
-abbrev pub report_cells : Report → PositionParts → List ℕ → List ℕ → List Cell
-report_cells report start first fen =
+abbrev pub report_cells : Report → PositionParts → List ℕ → List ℕ → Heading → Option Bool → List Cell
+report_cells report start first fen heading unmarked =
     (codes "start_fen", maybe Text (start_text first))
+    ∷ (codes "fen_changed", Truth (is_changed (fen_tag heading) start))
     ∷ (codes "plies", Number report.plies)
     ∷ (codes "result", Text (outcome_text report.marker))
+    ∷ (codes "result_tag", maybe Text heading.result)
+    ∷ (codes "other_result", Truth (is_another heading.result report.marker))
+    ∷ (codes "no_marker", maybe Truth unmarked)
     ∷ (codes "status", Text (status_text report.status))
     ∷ (codes "winner", maybe Text (option_map colour_text report.winner))
     ∷ (codes "over_ply", maybe Number (option_map (λ o. o.ply) (played_on report.over report.plies)))
@@ -54,11 +59,12 @@ report_cells report start first fen =
     ∷ (codes "fen", Text fen)
     ∷ []
 
--- something is wrong with the game that has those tags
-abbrev pub is_finding : Tags → Report → Bool
-is_finding tags report =
+-- something is wrong with the game that has those tags and that start
+abbrev pub is_finding : Tags → Report → PositionParts → Heading → (unmarked : Bool) → Bool
+is_finding tags report start heading unmarked =
     is_some (played_on report.over report.plies) || not report.agrees || is_unended report || wins_bare report.last report.marker
     || is_other_variant (tag_value (codes "Variant") tags)
+    || is_another heading.result report.marker || unmarked || is_changed (fen_tag heading) start
 
 -- a report is that of a game
 pub record IsReportOf (report : Report) (game : Game) : Type 0 where

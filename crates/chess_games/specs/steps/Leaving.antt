@@ -8,8 +8,8 @@ use Rattle.chess_items.specs.Coming.{AtHand, BreaksWhere, CameWhere}
 use Rattle.chess_items.specs.declared.fault.FaultKind.TheVariants as lacks
 use Rattle.chess_pgn.specs.declared.games.GamesFault.{GamesFault}
 use Rattle.chess_pgn.specs.declared.games.GamesFault.TheVariants.{Pgn, Read}
-use Rattle.chess_programs.specs.declared.collection.Failure.{Failure}
-use Rattle.chess_programs.specs.declared.collection.Failure.TheVariants as by
+use Rattle.chess_command_line.specs.declared.collection.Failure.{Failure}
+use Rattle.chess_command_line.specs.declared.collection.Failure.TheVariants as by
 
 abbrev pub IsFor : Failure → GamesFault → Type 0
 IsFor by.Read Read = ⊤

@@ -1,15 +1,19 @@
 use Rattle.std.proofs.Common.{subst}
-use Rattle.std.specs.Prelude.{IfOk}
-use Rattle.chess_games.specs.Salvaged.{IsSalvagedAll}
-use Rattle.chess_games.proofs.HeadLemmas.{headed}
+use Rattle.chess_collection.specs.Handling.{GoesOver}
+use Rattle.chess_pgn.specs.Reading.{IsWhite}
+use Rattle.chess_games.specs.Forms.{head_in}
+use Rattle.chess_games.specs.Salvaged.{IsSavedIn}
 use Rattle.chess_games.proofs.salvaging.filter_saving.Goals as goal
 
 pub returns : goal.returns
-returns g c = record {
-  good =
-      headed g.W.Sink.takes g.W.Sink.failed c.args.wanted.form c.args.writer.now c.put_head.new.writer c.in_ok-put_head.ensures.all c.in_ok-put_head.ensures.well
-      (λ bad mid. IsSalvagedAll g.R.Source.gives g.R.Source.failed g.R.Source.ended g.W.Sink.takes g.W.Sink.failed c.args.wanted.form c.args.wanted.part c.args.reader mid c.write_saved.new.writer bad) c.write_saved.result
+returns g c = (
+  c.save_all-ended.new.window,
+  subst
+      (λ reads. GoesOver g.R.Source.gives g.R.Source.failed (λ number offset bytes used fate text. IsSavedIn c.args.wanted.letters c.args.wanted.form c.args.wanted.part number offset bytes used fate text) g.R.Source.ended reads (λ bytes. IsWhite bytes) g.W.Sink.takes g.W.Sink.failed
+      (head_in c.args.wanted.form) c.args.reader c.save_all-ended.new.window c.args.writer.now c.save_all-ended.new.writer c.save_all-ended.result)
+      c.new-window.ensures.reads
       (subst
-      (λ source. IfOk c.write_saved.result (λ bad. IsSalvagedAll g.R.Source.gives g.R.Source.failed g.R.Source.ended g.W.Sink.takes g.W.Sink.failed c.args.wanted.form c.args.wanted.part source c.put_head.new.writer c.write_saved.new.writer bad))
-      c.new-window.ensures.source c.write_saved.ensures.good);
-}
+      (λ source. GoesOver g.R.Source.gives g.R.Source.failed (λ number offset bytes used fate text. IsSavedIn c.args.wanted.letters c.args.wanted.form c.args.wanted.part number offset bytes used fate text) g.R.Source.ended c.new-window.result.reads (λ bytes. IsWhite bytes) g.W.Sink.takes g.W.Sink.failed
+      (head_in c.args.wanted.form) source c.save_all-ended.new.window c.args.writer.now c.save_all-ended.new.writer c.save_all-ended.result)
+      c.new-window.ensures.source c.save_all-ended.ensures),
+)
