@@ -3,6 +3,8 @@ use Rattle.std.proofs.Common.{◌≡◌, ◌⊎◌, ℕ, ◌+◌, ◌≤◌, Boo
 use Rattle.std.proofs.lemmas.Bool.{false≢true}
 use Rattle.std.specs.Prelude.{Result, Ok, Option, Some, None, IfErr, IfOk, IfSome, ⊤}
 use Rattle.byte_streams.specs.Calls.{Carries, joined}
+use Rattle.byte_streams.specs.declared.source.Source.{Ghosts as Source}
+use Rattle.byte_streams.specs.declared.sink.Sink.{Ghosts as Sink}
 use Rattle.byte_streams.proofs.CallLemmas.{Calls-append, Carries-none, Carries-append, joined-append}
 use Rattle.chess_items.specs.Coming.{AtHand, Breaks, Came, EachBrings, LastReadWhere, unread}
 use Rattle.chess_items.specs.declared.fault.PgnFault.{PgnFault}
@@ -41,11 +43,11 @@ are_more input [] mid text rest game e parts prefix =
     (text, rest, e ∙ parts, subst (λ (z : List ℕ). BeginsWithGame z game (length text)) (sym e) prefix, refl)
 are_more input (g ∷ games) mid text rest game a parts prefix = (a.0, a.1, a.2, a.3, are_more a.1 games mid text rest game a.4 parts prefix)
 
-module _ {R : Type 0} (gives : R → List ℕ → R → Type 0) (failed : R → Bool) where
-  pub reads_none : (s : AtHand R) → Reads gives failed s s []
-  reads_none s = record { bytes = []; came = came_none gives failed s s refl refl refl refl; are = λ more none. refl; whole = inl (empty_is (came_none gives failed s s refl refl refl refl).pieces (let n = (came_none gives failed s s refl refl refl refl).counted in omega (arith, n))) }
+module _ {R : Type 0} (source : Source R) where
+  pub reads_none : (s : AtHand R) → Reads source s s []
+  reads_none s = record { bytes = []; came = came_none source.gives source.failed s s refl refl refl refl; are = λ more none. refl; whole = inl (empty_is (came_none source.gives source.failed s s refl refl refl refl).pieces (let n = (came_none source.gives source.failed s s refl refl refl refl).counted in omega (arith, n))) }
 
-  abbrev carries : (s n : AtHand R) (bytes : List ℕ) → Came gives failed s bytes n → Carries gives s.source bytes n.source
+  abbrev carries : (s n : AtHand R) (bytes : List ℕ) → Came source.gives source.failed s bytes n → Carries source.gives s.source bytes n.source
   carries s n bytes c = record { pieces = c.pieces; calls = c.calls; whole = c.whole }
 
   -- where the last read was made, if one was, no one game was after those before it, and this held
@@ -61,7 +63,7 @@ module _ {R : Type 0} (gives : R → List ℕ → R → Type 0) (failed : R → 
   some_pieces (p ∷ before) piece e = cc
 
   -- what holds where it is wanted, or where others follow
-  whole_on : (holds wanted : List ℕ → Type 0) → ((text : List ℕ) → EndsOpen text → wanted text) → (s m n : AtHand R) (games others : List Game) → ((text : List ℕ) → others ≡ [] → holds text → wanted text) → (r : Reads gives failed s m games) (bytes : List ℕ) (came : Came gives failed m bytes n)
+  whole_on : (holds wanted : List ℕ → Type 0) → ((text : List ℕ) → EndsOpen text → wanted text) → (s m n : AtHand R) (games others : List Game) → ((text : List ℕ) → others ≡ [] → holds text → wanted text) → (r : Reads source s m games) (bytes : List ℕ) (came : Came source.gives source.failed m bytes n)
       → Yet holds m came.pieces → HoldsWhole wanted (unread s) (r.came.pieces ++ came.pieces) (games ++ others)
   whole_on holds wanted weaker s m n games others of r bytes came (inl e) =
       subst (λ (z : List (List ℕ)). HoldsWhole wanted (unread s) z (games ++ others)) (sym (ap (λ (z : List (List ℕ)). r.came.pieces ++ z) e ∙ append-nil r.came.pieces)) (more r.whole)
@@ -102,10 +104,10 @@ module _ {R : Type 0} (gives : R → List ℕ → R → Type 0) (failed : R → 
     still = λ e. of (unread m ++ joined y.0) e y.4;
   })
 
-  reads_more : (s m n : AtHand R) (games : List Game) (game : Game) → Reads gives failed s m games → HasGame gives failed m n game → Reads gives failed s n (games ++ game ∷ [])
+  reads_more : (s m n : AtHand R) (games : List Game) (game : Game) → Reads source s m games → HasGame source.gives source.failed m n game → Reads source s n (games ++ game ∷ [])
   reads_more s m n games game r h = record {
     bytes = r.bytes ++ h.bytes;
-    came = joins gives failed s n m r.bytes h.bytes (r.bytes ++ h.bytes) r.came h.came refl;
+    came = joins source.gives source.failed s n m r.bytes h.bytes (r.bytes ++ h.bytes) r.came h.came refl;
     whole = whole_on (λ _. ⊤) EndsOpen (λ text e. e) s m n games (game ∷ []) (λ text e. absurd cc) r h.bytes h.came (asked_yet m h.came.pieces h.needed);
     are = λ more none.
         let before = r.are (h.bytes ++ more) (λ e. (let still = h.still e in ap (λ (z : List ℕ). z ++ more) still.0 ∙ none still.1)) in
@@ -116,9 +118,9 @@ module _ {R : Type 0} (gives : R → List ℕ → R → Type 0) (failed : R → 
   }
 
   -- bytes that came after the games
-  module _ (s m n : AtHand R) (games : List Game) (nothing : unread s ≡ []) (first : failed s.source ≡ false) (r : Reads gives failed s m games) (bytes : List ℕ) (came : Came gives failed m bytes n) where
-    abbrev all_bytes : Came gives failed s (r.bytes ++ bytes) n
-    all_bytes = joins gives failed s n m r.bytes bytes (r.bytes ++ bytes) r.came came refl
+  module _ (s m n : AtHand R) (games : List Game) (nothing : unread s ≡ []) (first : source.failed s.source ≡ false) (r : Reads source s m games) (bytes : List ℕ) (came : Came source.gives source.failed m bytes n) where
+    abbrev all_bytes : Came source.gives source.failed s (r.bytes ++ bytes) n
+    all_bytes = joins source.gives source.failed s n m r.bytes bytes (r.bytes ++ bytes) r.came came refl
 
     -- the games hold each that is whole before the last read
     whole_still : (wanted : List ℕ → Type 0) → ((text : List ℕ) → EndsOpen text → wanted text) → Yet wanted m came.pieces → HoldsWhole wanted [] (r.came.pieces ++ came.pieces) games
@@ -126,7 +128,7 @@ module _ {R : Type 0} (gives : R → List ℕ → R → Type 0) (failed : R → 
         subst (λ (z : List ℕ). HoldsWhole wanted z (r.came.pieces ++ came.pieces) games) nothing
         (subst (λ (z : List Game). HoldsWhole wanted (unread s) (r.came.pieces ++ came.pieces) z) (append-nil games) (whole_on wanted wanted weaker s m n games [] (λ text e h. h) r bytes came yet))
 
-    well_read : failed n.source ≡ false
+    well_read : source.failed n.source ≡ false
     well_read = came.well ∙ r.came.well ∙ first
 
     are_on : (more : List ℕ) → (m.has_ended ≡ true → bytes ++ more ≡ []) → AreGames ((r.bytes ++ bytes) ++ more) games ((unread m ++ bytes) ++ more)
@@ -135,17 +137,16 @@ module _ {R : Type 0} (gives : R → List ℕ → R → Type 0) (failed : R → 
         let whole = subst (λ (z : List ℕ). AreGames z games (unread m ++ (bytes ++ more))) (sym (append_assoc r.bytes bytes more)) bare in
         subst (λ (z : List ℕ). AreGames ((r.bytes ++ bytes) ++ more) games z) (sym (append_assoc (unread m) bytes more)) whole
 
-    module _ (ended : R → Type 0) where
-      collected : (all : Bool) → (all ≡ true → ended n.source) → (m.has_ended ≡ true → (bytes ≡ []) × (all ≡ true)) → Collected gives failed ended s.source n.source games
-      collected all told still = record {
-        bytes = r.bytes ++ bytes;
-        came = carries s n (r.bytes ++ bytes) all_bytes;
-        well_read = well_read;
-        all = all;
-        told = told;
-        rest = unread m ++ bytes;
-        are = λ more none. are_on more (λ e. (let b = still e in ap (λ (z : List ℕ). z ++ more) b.0 ∙ none b.1));
-      }
+    collected : (all : Bool) → (all ≡ true → source.ended n.source) → (m.has_ended ≡ true → (bytes ≡ []) × (all ≡ true)) → Collected source s.source n.source games
+    collected all ended still = record {
+      bytes = r.bytes ++ bytes;
+      came = carries s n (r.bytes ++ bytes) all_bytes;
+      well_read = well_read;
+      all = all;
+      ended = ended;
+      rest = unread m ++ bytes;
+      are = λ more none. are_on more (λ e. (let b = still e in ap (λ (z : List ℕ). z ++ more) b.0 ∙ none b.1));
+    }
 
 -- where no fault came, reading goes on
 pub still_on : (fault : Option GamesFault) → fault ≡ None → GoesOn fault
@@ -166,32 +167,32 @@ read_fault gives failed ended old new result fault is h = subst (λ r. IfErr r (
 
 -- ---- what is written
 
-module _ {R W : Type 0} (gives : R → List ℕ → R → Type 0) (read_failed : R → Bool) (ended : R → Type 0) (takes : W → List ℕ → W → Type 0) (failed : W → Bool) where
-  pub none_yet : (s : AtHand R) (w : W) → failed w ≡ false → SoFar gives read_failed ended takes failed 0 s s w w
-  none_yet s w well = record { games = []; reads = reads_none gives read_failed s; few = omega arith; written = record { writes = Carries-none takes w; well_written = well } }
+module _ {R W : Type 0} (source : Source R) (sink : Sink W) where
+  pub none_yet : (s : AtHand R) (w : W) → sink.failed w ≡ false → SoFar source sink 0 s s w w
+  none_yet s w well = record { games = []; reads = reads_none source s; few = omega arith; written = record { writes = Carries-none sink.takes w; well_written = well } }
 
   -- one game more
-  pub one_more : (count : ℕ) (s m n : AtHand R) (old mid new : W) (game : Game) → SoFar gives read_failed ended takes failed count s m old mid → HasGame gives read_failed m n game → Sent takes failed mid (game_text game) [] new
-      → SoFar gives read_failed ended takes failed (count + 1) s n old new
+  pub one_more : (count : ℕ) (s m n : AtHand R) (old mid new : W) (game : Game) → SoFar source sink count s m old mid → HasGame source.gives source.failed m n game → Sent sink.takes sink.failed mid (game_text game) [] new
+      → SoFar source sink (count + 1) s n old new
   unfolding reads_more
   one_more count s m n old mid new game so_far read sent = record {
     games = so_far.games ++ game ∷ [];
-    reads = reads_more gives read_failed s m n so_far.games game so_far.reads read;
+    reads = reads_more source s m n so_far.games game so_far.reads read;
     few = (let a = length-append so_far.reads.bytes read.bytes in let b = ap length read.parts in let c = length-append (unread m) read.bytes in let d = length-append read.text (unread n) in omega (arith, a, b, c, d, read.some, so_far.few));
     written = record {
-      writes = subst (λ (t : List ℕ). Carries takes old t new) (sym (games_text-append so_far.games game))
-          (Carries-append takes old mid new (games_text so_far.games) (game_text game) so_far.written.writes (sent_whole takes failed mid new (game_text game) sent));
+      writes = subst (λ (t : List ℕ). Carries sink.takes old t new) (sym (games_text-append so_far.games game))
+          (Carries-append sink.takes old mid new (games_text so_far.games) (game_text game) so_far.written.writes (sent_whole sink.takes sink.failed mid new (game_text game) sent));
       well_written = sent.well ∙ so_far.written.well_written;
     };
   }
 
-  module _ (count : ℕ) (s : AtHand R) (nothing : unread s ≡ []) (first_read : read_failed s.source ≡ false) where
+  module _ (count : ℕ) (s : AtHand R) (nothing : unread s ≡ []) (first_read : source.failed s.source ≡ false) where
     -- the input has no game more
-    pub ends_whole : (m n : AtHand R) (old new : W) → SoFar gives read_failed ended takes failed count s m old new → HasNone gives read_failed m n → ended n.source → EndsWhole gives read_failed ended takes failed s.source n.source old new
+    pub ends_whole : (m n : AtHand R) (old new : W) → SoFar source sink count s m old new → HasNone source.gives source.failed m n → source.ended n.source → EndsWhole source sink s.source n.source old new
     ends_whole m n old new so_far none all = record {
       bytes = so_far.reads.bytes ++ none.bytes;
-      came = carries gives read_failed s n (so_far.reads.bytes ++ none.bytes) (came_append gives read_failed s m n so_far.reads.bytes none.bytes so_far.reads.came none.came);
-      well_read = well_read gives read_failed s m n so_far.games nothing first_read so_far.reads none.bytes none.came;
+      came = carries source s n (so_far.reads.bytes ++ none.bytes) (came_append source.gives source.failed s m n so_far.reads.bytes none.bytes so_far.reads.came none.came);
+      well_read = well_read source s m n so_far.games nothing first_read so_far.reads none.bytes none.came;
       all = all;
       games = so_far.games;
       rest = unread m ++ none.bytes;
@@ -201,10 +202,10 @@ module _ {R W : Type 0} (gives : R → List ℕ → R → Type 0) (read_failed :
     }
 
     -- where no game is there in any case
-    fails_yet : (m n : AtHand R) (fails : Fails gives read_failed ended m n) → Yet gives read_failed EndsOpen m fails.came.pieces
+    fails_yet : (m n : AtHand R) (fails : Fails source.gives source.failed source.ended m n) → Yet source EndsOpen m fails.came.pieces
     fails_yet m n fails = by fails.came.pieces fails.came.whole fails.needed
       where
-        by : (pieces : List (List ℕ)) → joined pieces ≡ fails.bytes → LastReadWhere EndsOpen (unread m) pieces → Yet gives read_failed EndsOpen m pieces
+        by : (pieces : List (List ℕ)) → joined pieces ≡ fails.bytes → LastReadWhere EndsOpen (unread m) pieces → Yet source EndsOpen m pieces
         by pieces whole needed = elim needed [
           | inl e ↦ inl e
           | inr l ↦ inr (
@@ -220,12 +221,12 @@ module _ {R W : Type 0} (gives : R → List ℕ → R → Type 0) (read_failed :
         ]
 
     -- what comes after the games is refused
-    refused_there : (m n : AtHand R) (old new : W) → SoFar gives read_failed ended takes failed count s m old new → Fails gives read_failed ended m n → EndsAtFault gives read_failed ended takes failed s.source n.source old new
+    refused_there : (m n : AtHand R) (old new : W) → SoFar source sink count s m old new → Fails source.gives source.failed source.ended m n → EndsAtFault source sink s.source n.source old new
     unfolding collected
     refused_there m n old new so_far fails = record {
       games = so_far.games;
-      reads = collected gives read_failed s m n so_far.games nothing first_read so_far.reads fails.bytes fails.came ended n.has_ended fails.ended_so fails.still;
-      needed = whole_still gives read_failed s m n so_far.games nothing first_read so_far.reads fails.bytes fails.came EndsOpen (λ text e. e) (fails_yet m n fails);
+      reads = collected source s m n so_far.games nothing first_read so_far.reads fails.bytes fails.came n.has_ended fails.ended_so fails.still;
+      needed = whole_still source s m n so_far.games nothing first_read so_far.reads fails.bytes fails.came EndsOpen (λ text e. e) (fails_yet m n fails);
       refused = λ more none.
           let same = sym (append_assoc (unread m) fails.bytes more) in
           (subst HasNoGame same (fails.none more none), subst (λ (z : List ℕ). IsWhite z → ⊥) same (fails.dark more none));
@@ -233,31 +234,31 @@ module _ {R W : Type 0} (gives : R → List ℕ → R → Type 0) (read_failed :
     }
 
     -- there was no memory for it
-    starved_there : (m n : AtHand R) (old new : W) → SoFar gives read_failed ended takes failed count s m old new → Starves gives read_failed ended m n → EndsWritten gives read_failed ended takes failed s.source n.source old new
+    starved_there : (m n : AtHand R) (old new : W) → SoFar source sink count s m old new → Starves source.gives source.failed source.ended m n → EndsWritten source sink s.source n.source old new
     unfolding collected
     starved_there m n old new so_far starves = record {
       games = so_far.games;
-      whole = whole_still gives read_failed s m n so_far.games nothing first_read so_far.reads starves.bytes starves.came (λ _. ⊤) (λ text e. tt) (asked_yet gives read_failed m starves.came.pieces starves.needed);
-      reads = collected gives read_failed s m n so_far.games nothing first_read so_far.reads starves.bytes starves.came ended m.has_ended (λ e. (starves.still e).1) (λ e. ((starves.still e).0, e));
+      whole = whole_still source s m n so_far.games nothing first_read so_far.reads starves.bytes starves.came (λ _. ⊤) (λ text e. tt) (asked_yet source m starves.came.pieces starves.needed);
+      reads = collected source s m n so_far.games nothing first_read so_far.reads starves.bytes starves.came m.has_ended (λ e. (starves.still e).1) (λ e. ((starves.still e).0, e));
       written = so_far.written;
     }
 
     -- so the run ends
-    pub ends_at_fault : (m n : AtHand R) (old new : W) (fault : PgnFault) (why : Ended) → SoFar gives read_failed ended takes failed count s m old new → HasFault gives read_failed ended m n (Pgn fault) → EndsBy fault why
-        → WritesAll gives read_failed ended takes failed s.source n.source old new why
-    ends_at_fault m n old new fault why so_far (inl starves) (inl by) = subst (λ (e : Ended). WritesAll gives read_failed ended takes failed s.source n.source old new e) (sym by.1) (starved_there m n old new so_far starves.1)
+    pub ends_at_fault : (m n : AtHand R) (old new : W) (fault : PgnFault) (why : Ended) → SoFar source sink count s m old new → HasFault source.gives source.failed source.ended m n (Pgn fault) → EndsBy fault why
+        → WritesAll source sink s.source n.source old new why
+    ends_at_fault m n old new fault why so_far (inl starves) (inl by) = subst (λ (e : Ended). WritesAll source sink s.source n.source old new e) (sym by.1) (starved_there m n old new so_far starves.1)
     ends_at_fault m n old new fault why so_far (inl starves) (inr by) = absurd (by.0 starves.0)
     ends_at_fault m n old new fault why so_far (inr fails) (inl by) = absurd (fails.0 by.0)
-    ends_at_fault m n old new fault why so_far (inr fails) (inr by) = subst (λ (e : Ended). WritesAll gives read_failed ended takes failed s.source n.source old new e) (sym by.1) (by.0, refused_there m n old new so_far fails.1)
+    ends_at_fault m n old new fault why so_far (inr fails) (inr by) = subst (λ (e : Ended). WritesAll source sink s.source n.source old new e) (sym by.1) (by.0, refused_there m n old new so_far fails.1)
 
     -- why a read was the last
-    caused : (m b n : AtHand R) (bytes : List ℕ) (games : List Game) (r : Reads gives read_failed s m games) (came : Came gives read_failed m bytes b) → s.reads ≡ most_reads → Breaks gives read_failed b n
-        → (gives b.source [] n.source × (read_failed n.source ≡ true)) ⊎ ((b.source ≡ n.source) × (length (r.came.pieces ++ came.pieces) ≡ most_reads))
+    caused : (m b n : AtHand R) (bytes : List ℕ) (games : List Game) (r : Reads source s m games) (came : Came source.gives source.failed m bytes b) → s.reads ≡ most_reads → Breaks source.gives source.failed b n
+        → (source.gives b.source [] n.source × (source.failed n.source ≡ true)) ⊎ ((b.source ≡ n.source) × (length (r.came.pieces ++ came.pieces) ≡ most_reads))
     caused m b n bytes games r came many (inl failed_read, hand, used) = inl failed_read
     caused m b n bytes games r came many (inr none_left, hand, used) = inr (sym none_left.0, (let k = length-append r.came.pieces came.pieces in omega (arith, k, r.came.counted, came.counted, many, none_left.1)))
 
     -- the last read failed, or there were 2^40
-    pub ends_unread : (m n : AtHand R) (old new : W) → s.reads ≡ most_reads → SoFar gives read_failed ended takes failed count s m old new → HasFault gives read_failed ended m n Read → EndsUnread gives read_failed ended takes failed most_reads s.source n.source old new
+    pub ends_unread : (m n : AtHand R) (old new : W) → s.reads ≡ most_reads → SoFar source sink count s m old new → HasFault source.gives source.failed source.ended m n Read → EndsUnread source sink most_reads s.source n.source old new
     ends_unread m n old new many so_far reads =
         let fails = reads.breaks in
         let r = so_far.reads in
@@ -266,21 +267,21 @@ module _ {R W : Type 0} (gives : R → List ℕ → R → Type 0) (read_failed :
         record {
           pieces = r.came.pieces ++ fails.came.pieces;
           before = fails.before.source;
-          calls = Calls-append gives s.source m.source fails.before.source r.came.pieces fails.came.pieces r.came.calls fails.came.calls;
-          well_read = well_read gives read_failed s m fails.before so_far.games nothing first_read r fails.bytes fails.came;
+          calls = Calls-append source.gives s.source m.source fails.before.source r.came.pieces fails.came.pieces r.came.calls fails.came.calls;
+          well_read = well_read source s m fails.before so_far.games nothing first_read r fails.bytes fails.came;
           each = each_append r.came.pieces fails.came.pieces (all_bring r.came.pieces (subst (λ (e : Bool). EachBrings e r.came.pieces) goes r.came.each)) (all_bring fails.came.pieces (subst (λ (e : Bool). EachBrings e fails.came.pieces) fails.not_ended fails.came.each));
           cause = caused m fails.before n fails.bytes so_far.games r fails.came many fails.breaks;
           games = so_far.games;
           rest = unread m ++ fails.bytes;
           are = λ more. subst (λ (z : List ℕ). AreGames (z ++ more) so_far.games ((unread m ++ fails.bytes) ++ more)) (sym whole)
-              (are_on gives read_failed s m fails.before so_far.games nothing first_read r fails.bytes fails.came more (λ e. absurd (false≢true (sym goes ∙ e))));
+              (are_on source s m fails.before so_far.games nothing first_read r fails.bytes fails.came more (λ e. absurd (false≢true (sym goes ∙ e))));
           none = fails.none;
           ends = reads.within.ends;
           written = so_far.written;
         }
 
     -- there are never so many games, since all reads have fewer bytes
-    pub not_so_many : (m : AtHand R) (old new : W) → s.reads ≡ most_reads → SoFar gives read_failed ended takes failed count s m old new → 144115188075855872 ≤ count → ⊥
+    pub not_so_many : (m : AtHand R) (old new : W) → s.reads ≡ most_reads → SoFar source sink count s m old new → 144115188075855872 ≤ count → ⊥
     not_so_many m old new many so_far so =
         let c = so_far.reads.came in
         let n = ap length nothing in
@@ -288,18 +289,18 @@ module _ {R W : Type 0} (gives : R → List ℕ → R → Type 0) (read_failed :
         omega (arith, n, c.counted, s, many, so, so_far.few)
 
     -- a prefix of one more
-    broken_more : (m n : AtHand R) (old mid new : W) (game : Game) → (n.has_ended ≡ true → ended n.source) → failed old ≡ false → SoFar gives read_failed ended takes failed count s m old mid → HasGame gives read_failed m n game
-        → Broken takes failed mid (game_text game) new → EndsInPart gives read_failed ended takes failed s.source n.source old new
+    broken_more : (m n : AtHand R) (old mid new : W) (game : Game) → (n.has_ended ≡ true → source.ended n.source) → sink.failed old ≡ false → SoFar source sink count s m old mid → HasGame source.gives source.failed m n game
+        → Broken sink.takes sink.failed mid (game_text game) new → EndsInPart source sink s.source n.source old new
     unfolding reads_none
     broken_more m n old mid new game told first so_far read broken = record {
       games = so_far.games ++ game ∷ [];
-      reads = collected gives read_failed s n n (so_far.games ++ game ∷ []) nothing first_read (reads_more gives read_failed s m n so_far.games game so_far.reads read) []
-          (reads_none gives read_failed n).came ended n.has_ended told (λ e. (refl, e));
+      reads = collected source s n n (so_far.games ++ game ∷ []) nothing first_read (reads_more source s m n so_far.games game so_far.reads read) []
+          (reads_none source n).came n.has_ended told (λ e. (refl, e));
       broken = record {
         prefix = games_text so_far.games ++ broken.prefix;
         rest = broken.rest;
         before = broken.before;
-        calls = Carries-append takes old mid broken.before (games_text so_far.games) broken.prefix so_far.written.writes broken.calls;
+        calls = Carries-append sink.takes old mid broken.before (games_text so_far.games) broken.prefix so_far.written.writes broken.calls;
         whole = append_assoc (games_text so_far.games) broken.prefix broken.rest ∙ ap (λ (t : List ℕ). games_text so_far.games ++ t) broken.whole ∙ sym (games_text-append so_far.games game);
         unwritten = broken.unwritten;
         well = broken.well ∙ so_far.written.well_written ∙ sym first;
@@ -309,20 +310,20 @@ module _ {R W : Type 0} (gives : R → List ℕ → R → Type 0) (read_failed :
     }
 
     -- there was no memory for the text of a game
-    ends_written : (m n : AtHand R) (old new : W) (game : Game) → (n.has_ended ≡ true → ended n.source) → SoFar gives read_failed ended takes failed count s m old new → HasGame gives read_failed m n game → EndsWritten gives read_failed ended takes failed s.source n.source old new
+    ends_written : (m n : AtHand R) (old new : W) (game : Game) → (n.has_ended ≡ true → source.ended n.source) → SoFar source sink count s m old new → HasGame source.gives source.failed m n game → EndsWritten source sink s.source n.source old new
     unfolding collected
     ends_written m n old new game told so_far read = record {
       games = so_far.games;
-      whole = whole_still gives read_failed s m n so_far.games nothing first_read so_far.reads read.bytes read.came (λ _. ⊤) (λ text e. tt) (asked_yet gives read_failed m read.came.pieces read.needed);
-      reads = collected gives read_failed s m n so_far.games nothing first_read so_far.reads read.bytes read.came ended n.has_ended told read.still;
+      whole = whole_still source s m n so_far.games nothing first_read so_far.reads read.bytes read.came (λ _. ⊤) (λ text e. tt) (asked_yet source m read.came.pieces read.needed);
+      reads = collected source s m n so_far.games nothing first_read so_far.reads read.bytes read.came n.has_ended told read.still;
       written = so_far.written;
     }
 
     -- why no more is written
-    pub ends_at : (m n : AtHand R) (old mid new : W) (game : Game) (why : Ended) → (n.has_ended ≡ true → ended n.source) → failed old ≡ false → SoFar gives read_failed ended takes failed count s m old mid → HasGame gives read_failed m n game
-        → WritesOne takes failed {X = Unit {0}} (game_text game) mid new (Err why) → WritesAll gives read_failed ended takes failed s.source n.source old new why
+    pub ends_at : (m n : AtHand R) (old mid new : W) (game : Game) (why : Ended) → (n.has_ended ≡ true → source.ended n.source) → sink.failed old ≡ false → SoFar source sink count s m old mid → HasGame source.gives source.failed m n game
+        → WritesOne sink {X = Unit {0}} (game_text game) mid new (Err why) → WritesAll source sink s.source n.source old new why
     ends_at m n old mid new game Good told first so_far read wrote = absurd wrote
     ends_at m n old mid new game (Input fault) told first so_far read wrote = absurd wrote
     ends_at m n old mid new game ReadFault told first so_far read wrote = absurd wrote
     ends_at m n old mid new game WriteFault told first so_far read wrote = broken_more m n old mid new game told first so_far read wrote
-    ends_at m n old mid new game Memory told first so_far read wrote = subst (λ (w : W). EndsWritten gives read_failed ended takes failed s.source n.source old w) (sym wrote) (ends_written m n old mid game told so_far read)
+    ends_at m n old mid new game Memory told first so_far read wrote = subst (λ (w : W). EndsWritten source sink s.source n.source old w) (sym wrote) (ends_written m n old mid game told so_far read)

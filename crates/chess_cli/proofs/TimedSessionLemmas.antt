@@ -1,6 +1,5 @@
 -- A line that is being answered by a session, in the code's words.
-use Rattle.std.proofs.Common.{◌≡◌, ℕ, ◌<◌, ◌≤◌, Bool, Bor, true, false, leb, ◌⊎◌, ⊎_elim, inl, inr, List, [], ◌∷◌, ◌++◌, length, refl, sym, ap, ◌∙◌, subst, append_assoc, arith, Ok, Err}
-use Rattle.std.proofs.lemmas.Bool.Decides.{nat_tests}
+use Rattle.std.proofs.Common.{◌≡◌, ℕ, ◌<◌, ◌≤◌, Bool, Bor, true, false, ◌⊎◌, ⊎_elim, inl, inr, List, [], ◌∷◌, ◌++◌, length, refl, sym, ap, ◌∙◌, subst, append_assoc, arith, Ok, Err}
 use Rattle.byte_streams.specs.Calls.{joined}
 use Rattle.byte_streams.specs.declared.source.Failed.{Failed}
 use Rattle.byte_streams.proofs.CallLemmas.{joined-more}
@@ -11,7 +10,7 @@ use Rattle.chess_uci.specs.Machine.{AsksForMemory, Event, Line, Starved, State, 
 use Rattle.chess_uci.specs.Events.{Does, Follows}
 use Rattle.chess_cli.specs.declared.uci_command.timed_session.TimedSession.{TimedSession}
 use Rattle.chess_loop.specs.InputLines.{line_limit, line_room}
-use Rattle.chess_cli.specs.TimedSessions.{Answered, AnsweredInPart, AnsweredSoFar, AnsweredWithin, IsLineEvent, is_fed, no_memory_line, reply_lines, too_long_line}
+use Rattle.chess_cli.specs.TimedSessions.{Answered, AnsweredInPart, AnsweredSoFar, IsLineEvent, is_fed, no_memory_line, reply_lines, too_long_line}
 use Rattle.chess_cli.specs.steps.Driving.{Happened}
 use Rattle.chess_loop.specs.Runs.{unwritten}
 use Rattle.chess_loop.specs.steps.Reads.{AnswersLine}
@@ -27,9 +26,6 @@ line_event : (line : List ℕ) (b : Bor (List ℕ)) (t u : State) (told : List R
 line_event line b t u told e follows =
     ⊎_elim (λ (d : Does (step t (Line b.now)) told u). (Line b.now, inl (ap Line e), d))
     (λ (d : AsksForMemory (command_in b.now) × Does (step t (Starved b.now)) told u). (Starved b.now, inr (ap Starved e, subst (λ (l : List ℕ). AsksForMemory (command_in l)) e d.0), d.1)) follows
-
-within : (bytes : List ℕ) → length bytes ≤ line_limit → leb (length bytes) line_limit ≡ true
-within bytes few = grind (arith, nat_tests, few)
 
 module _ {W : Type 0} (takes : W → List ℕ → W → Type 0) (failed : W → Bool) where
   -- after parts that are written comes one more, the only one on the page
@@ -83,7 +79,7 @@ module _ {A C W : Type 0} (reads : C → ℕ → C → Type 0) (takes : W → Li
   pub ends : (s t : TimedSession A C) (page page1 : List ℕ) (v w : W) → s.session.ended ≡ false → length line ≤ line_limit → Underway s page v t page1 w →
       is_fed t.session ≡ false → AnswersLine (Answered reads) (AnsweredInPart reads) takes failed {X = Unit {0}} {E = Failed} line s t page v page1 w (Ok tt)
   ends s t page page1 v w awake few so_far over =
-      (so_far.parts, (awake, subst (λ b. AnsweredWithin reads b s line so_far.parts t) (sym (within line few)) (inl (so_far.answered, over))), so_far.sends)
+      (so_far.parts, (awake, inl (few, so_far.answered, over)), so_far.sends)
 
   pub fails : (s t : TimedSession A C) (page page1 page2 : List ℕ) (v w x : W) (f : Failed) → s.session.ended ≡ false → length line ≤ line_limit → Underway s page v t page1 w →
       Flows takes failed {X = Unit {0}} {E = Failed} page1 w page2 x (Err f) →
@@ -95,11 +91,8 @@ module _ {A C W : Type 0} (reads : C → ℕ → C → Type 0) (takes : W → Li
 module _ {A C : Type 0} (reads : C → ℕ → C → Type 0) where
   -- one that found no memory
   pub answered_without_memory : (old : TimedSession A C) (bytes : List ℕ) → old.session.ended ≡ false → line_room < length bytes → length bytes ≤ line_limit → Answered reads old bytes (no_memory_line ∷ []) old
-  answered_without_memory old bytes awake long few =
-      (awake, subst (λ b. AnsweredWithin reads b old bytes (no_memory_line ∷ []) old) (sym (within bytes few)) (inr (long, refl, refl)))
+  answered_without_memory old bytes awake long few = (awake, inr (inl (few, long, refl, refl)))
 
   -- one over the limit is skipped
   pub answered_long : (old : TimedSession A C) (bytes : List ℕ) → old.session.ended ≡ false → line_limit < length bytes → Answered reads old bytes (too_long_line ∷ []) old
-  answered_long old bytes awake over =
-      let test : leb (length bytes) line_limit ≡ false = grind (arith, nat_tests, over) in
-      (awake, subst (λ b. AnsweredWithin reads b old bytes (too_long_line ∷ []) old) (sym test) (refl, refl))
+  answered_long old bytes awake over = (awake, inr (inr (over, refl, refl)))

@@ -1,13 +1,11 @@
 -- A slice of a search that is fed leaves less to do.
-use Rattle.std.proofs.Common.{◌≡◌, ℕ, suc, ◌+◌, ◌-◌, ◌*◌, ◌==◌, ◌<◌, ◌≤◌, Bool, true, false, ◌&&◌, ◌||◌, not, ⊎_elim, max, List, length, Option, Some, None, refl, sym, subst, arith, ℤ}
+use Rattle.std.proofs.Common.{◌≡◌, ℕ, ◌+◌, ◌-◌, ◌*◌, ◌==◌, ◌<◌, ◌≤◌, Bool, true, false, ◌&&◌, ◌||◌, not, ⊎_elim, max, List, length, Option, Some, None, refl, sym, subst, arith}
 use Rattle.std.specs.Prelude.{nat_lt, nat_le}
 use Rattle.std.proofs.lemmas.Bool.Decides.{nat_tests}
 use Rattle.std.proofs.lemmas.Bool.{cases_lt}
-use Rattle.chess_types.specs.board.MoveParts.{MoveParts}
 use Rattle.chess_types.specs.board.Lines.{Line as GameLine}
-use Rattle.chess_search.specs.Best.{best}
 use Rattle.chess_uci.specs.declared.reply.Reply.{Reply}
-use Rattle.chess_uci.specs.Machine.{Search, State, Slice, Moment, step, step_if, slice, slice_if, sliced, complete, slice_step, moment_step, end_if, is_reached, IsAhead}
+use Rattle.chess_uci.specs.Machine.{Search, State, Slice, Moment, step, step_if, slice, slice_row, slice_step, moment_step, end_if, is_reached, IsAhead}
 use Rattle.chess_uci.specs.Events.{Does}
 use Rattle.chess_cli.specs.TimedSessions.{is_fed, wants_slices}
 
@@ -21,25 +19,19 @@ less last depth n k h =
     let e : last - depth ≡ (last - (depth + 1)) + 1 = omega arith in
     rw e (omega arith)
 
-complete_work : (last infinite : Bool) (x : Search) (best : Option (MoveParts × ℤ)) → (last ≡ false → x.depth < x.last) →
-    work (complete last infinite x best).1 < (x.last - x.depth) * (length x.roots + 1) + suc (length x.roots - x.searched)
-complete_work false infinite x best h = let e = less x.last x.depth (length x.roots) 0 (h refl) in omega (arith, e)
-complete_work true true x best h = omega arith
-complete_work true false x best h = omega arith
-
-sliced_work : (l : GameLine) (all : Bool) (x : Search) → x.depth ≤ x.last →
-    work (sliced l all x).1 < (x.last - x.depth) * (length x.roots + 1) + suc (length x.roots - x.searched)
-sliced_work l false x h = omega arith
-sliced_work l true x h =
-    complete_work (x.depth == x.last) x.infinite x (best x.claims x.depth l x.roots) (λ e. grind (arith, nat_tests))
+-- a slice of a search of which a root is left
+row_work : (last_root last_depth infinite : Bool) (l : GameLine) (x : Search) → x.searched < length x.roots → (last_depth ≡ false → x.depth < x.last) →
+    work (slice_row true last_root last_depth infinite l x).1 < work (Some x)
+row_work false _ _ l x left deeper = omega (arith, left)
+row_work true false _ l x left deeper = let e = less x.last x.depth (length x.roots) 0 (deeper refl) in omega (arith, e, left)
+row_work true true true l x left deeper = omega (arith, left)
+row_work true true false l x left deeper = omega (arith, left)
 
 slice_work : (l : GameLine) (x : Search) → x.depth ≤ x.last → x.searched < length x.roots → work (slice l x).1 < work (Some x)
 slice_work l x h left =
-    let y : Search = record x { searched = x.searched + 1 } in
     let yes : nat_lt x.searched (length x.roots) ≡ true = grind (arith, nat_tests) in
-    let most : suc (length x.roots - (x.searched + 1)) ≡ length x.roots - x.searched = omega arith in
-    let small = sliced_work l (x.searched + 1 == length x.roots) y h in
-    subst (λ b. work (slice_if l b x).1 < work (Some x)) (sym yes) (subst (λ n. work (sliced l (x.searched + 1 == length x.roots) y).1 < (x.last - x.depth) * (length x.roots + 1) + n) most small)
+    subst (λ b. work (slice_row b (x.searched + 1 == length x.roots) (x.depth == x.last) x.infinite l x).1 < work (Some x)) (sym yes)
+    (row_work (x.searched + 1 == length x.roots) (x.depth == x.last) x.infinite l x left (λ e. grind (arith, nat_tests)))
 
 no_more : (n m : ℕ) (infinite deep : Bool) → (m ≤ n → infinite ≡ true) → not (infinite && ((infinite && nat_le m n) || deep)) ≡ true → n < m
 no_more n m infinite deep ahead fed = ⊎_elim (λ (h : n < m). h) (λ (h : m ≤ n). absurd (no_fed infinite (nat_le m n) deep (ahead h) (grind (arith, nat_tests)) fed)) (cases_lt n m)

@@ -1,7 +1,7 @@
 -- What the board answers to a line of the input, and its game tree and cursor afterwards. Nothing here keeps a number: the counts, the
 -- evaluation, the repetitions and the status are those that the definitions give afresh for the starting position and the moves from the
 -- root to the cursor.
-use Rattle.std.specs.Prelude.{◌≡◌, ℕ, ◌+◌, ◌*◌, ◌<◌, nat_le, nat_lt, Bool, true, false, if◌then◌else◌, ◌⊎◌, ⊤, List, [], ◌∷◌, ◌++◌, length, map, filter, Option, Some, None, Result, Ok, Err, codes, decimal, ℤ}
+use Rattle.std.specs.Prelude.{◌≡◌, ℕ, ◌+◌, ◌*◌, ◌<◌, ◌≤◌, nat_le, nat_lt, Bool, true, false, if◌then◌else◌, ◌⊎◌, ⊤, List, [], ◌∷◌, ◌++◌, length, map, filter, Option, Some, None, Result, Ok, Err, codes, decimal, ℤ}
 use Rattle.std.specs.Fmt.{signed_decimal}
 use Rattle.std.specs.List.{range_with_len}
 use Rattle.chess_types.specs.declared.board.man.Colour.{Colour}
@@ -232,31 +232,21 @@ abbrev pub HasEffect : {X : Type 0} → Bool → Effect → TreeParts → Result
 HasEffect takes effect old (Ok _) new = effect ≡ Does new
 HasEffect takes effect old (Err refusal) new = ((effect ≡ Refuses refusal) ⊎ ((takes ≡ true) × IsGranted effect × (refusal ≡ Memory))) × (new ≡ old)
 
--- The board may answer the request with a text that this holds of, and go from the old tree and cursor to the new: as is asked, or, where that
--- needs memory and there is none, with a refusal and everything kept.
-abbrev pub MayAnswer : (List ℕ → Type 0) → TreeParts → Request → TreeParts → Type 0
-MayAnswer answers old request new =
-    (answers (answer old request) × (new ≡ tree_after old request))
-    ⊎ ((takes_memory old request ≡ true) × IsGranted (effect old request) × answers no_memory × (new ≡ old))
-
--- the text answers the request
-abbrev pub Tells : TreeParts → Request → List ℕ → TreeParts → Type 0
-Tells old request text new = MayAnswer (λ answer. text ≡ answer) old request new
+-- The text answers the request, asked of the old tree at its cursor: it says what is asked, or, where that takes memory and there is none, is a refusal
+-- that keeps everything.
+abbrev pub AnswersRequest : TreeParts → Request → List ℕ → TreeParts → Type 0
+AnswersRequest old request text new =
+    ((text ≡ answer old request) × (new ≡ tree_after old request))
+    ⊎ ((takes_memory old request ≡ true) × IsGranted (effect old request) × (text ≡ no_memory) × (new ≡ old))
 
 -- the refusal of a line over the limit
 abbrev pub long_line : List ℕ
 long_line = refused LongLine
 
--- The board may answer a line of the input with this text: one over the limit is refused; one that found no memory while it was read is refused so,
--- with everything kept; any other is answered as it asks, or, where what it asks for needs memory and there is none, refused so, with everything kept.
-abbrev pub AnswersKept : TreeParts → List ℕ → List ℕ → TreeParts → Type 0
-AnswersKept old input text new = Tells old (request input) text new ⊎ ((line_room < length input) × (text ≡ no_memory) × (new ≡ old))
-
--- whether the line is within the limit
-abbrev pub AnswersWithin : Bool → TreeParts → List ℕ → List ℕ → TreeParts → Type 0
-AnswersWithin true old input text new = AnswersKept old input text new
-AnswersWithin false old input text new = (text ≡ long_line) × (new ≡ old)
-
--- the text answers the line of the input
+-- The text answers a line of the input. One within the limit is answered as it asks; or, where there isn't always room for it, by the refusal for want of
+-- memory. One over the limit is refused. What is refused so keeps everything.
 abbrev pub Answers : TreeParts → List ℕ → List ℕ → TreeParts → Type 0
-Answers old input text new = AnswersWithin (nat_le (length input) line_limit) old input text new
+Answers old input text new =
+    ((length input ≤ line_limit) × AnswersRequest old (request input) text new)
+    ⊎ ((length input ≤ line_limit) × (line_room < length input) × (text ≡ no_memory) × (new ≡ old))
+    ⊎ ((line_limit < length input) × (text ≡ long_line) × (new ≡ old))

@@ -14,6 +14,8 @@
 use Rattle.std.specs.Prelude.{◌≡◌, ◌⊎◌, ℕ, ◌<◌, Bool, true, false, List, [], ◌∷◌, ◌++◌, length, ⊤}
 use Rattle.std.specs.List.{AllByRecursion}
 use Rattle.byte_streams.specs.Calls.{Calls, Carries, joined}
+use Rattle.byte_streams.specs.declared.source.Source.{Ghosts as Source}
+use Rattle.byte_streams.specs.declared.sink.Sink.{Ghosts as Sink}
 use Rattle.chess_pgn.specs.Games.{Game}
 use Rattle.chess_pgn.specs.Reading.{HasNoGame, HasNoGameYet, BeginsWithGame, IsWhite}
 use Rattle.chess_pgn.specs.Sources.{EndsOpen}
@@ -32,19 +34,19 @@ AreGames input (game ∷ games) rest =
     (text others : List ℕ) × (input ≡ text ++ others) × BeginsWithGame input game (length text) × AreGames others games rest
 
 -- where all of the input was given, nothing comes next, and the source has ended
-pub record Collected {R : Type 0} (gives : R → List ℕ → R → Type 0) (read_failed : R → Bool) (ended : R → Type 0) (reader reader' : R) (games : List Game) : Type 0 where
+pub record Collected {R : Type 0} (source : Source R) (reader reader' : R) (games : List Game) : Type 0 where
   pub bytes : List ℕ
-  pub came : Carries gives reader bytes reader'
-  pub well_read : read_failed reader' ≡ false
+  pub came : Carries source.gives reader bytes reader'
+  pub well_read : source.failed reader' ≡ false
   pub all : Bool
-  pub told : all ≡ true → ended reader'
+  pub ended : all ≡ true → source.ended reader'
   pub rest : List ℕ
   pub are : (more : List ℕ) → (all ≡ true → more ≡ []) → AreGames (bytes ++ more) games (rest ++ more)
 
 -- the writer took the export forms of these games
-pub record WritesGames {W : Type 0} (takes : W → List ℕ → W → Type 0) (failed : W → Bool) (games : List Game) (old new : W) : Type 0 where
-  pub writes : Carries takes old (games_text games) new
-  pub well_written : failed new ≡ false
+pub record WritesGames {W : Type 0} (sink : Sink W) (games : List Game) (old new : W) : Type 0 where
+  pub writes : Carries sink.takes old (games_text games) new
+  pub well_written : sink.failed new ≡ false
 
 -- with the bytes that were at hand before
 pub record WholeBefore (holds : List ℕ → Type 0) (hand : List ℕ) (pieces : List (List ℕ)) (games : List Game) : Type 0 where
@@ -62,47 +64,47 @@ pub record WholeBefore (holds : List ℕ → Type 0) (hand : List ℕ) (pieces :
 abbrev pub HoldsWhole : (List ℕ → Type 0) → List ℕ → List (List ℕ) → List Game → Type 0
 HoldsWhole holds hand pieces games = (pieces ≡ []) ⊎ WholeBefore holds hand pieces games
 
-module _ {R W : Type 0} (gives : R → List ℕ → R → Type 0) (read_failed : R → Bool) (ended : R → Type 0) (takes : W → List ℕ → W → Type 0) (failed : W → Bool) where
+module _ {R W : Type 0} (source : Source R) (sink : Sink W) where
   pub record EndsWritten (reader reader' : R) (old new : W) : Type 0 where
     pub games : List Game
-    pub reads : Collected gives read_failed ended reader reader' games
+    pub reads : Collected source reader reader' games
     pub whole : HoldsWhole (λ _. ⊤) [] reads.came.pieces games
-    pub written : WritesGames takes failed games old new
+    pub written : WritesGames sink games old new
 
   pub record EndsWhole (reader reader' : R) (old new : W) : Type 0 where
     pub bytes : List ℕ
-    pub came : Carries gives reader bytes reader'
-    pub well_read : read_failed reader' ≡ false
-    pub all : ended reader'
+    pub came : Carries source.gives reader bytes reader'
+    pub well_read : source.failed reader' ≡ false
+    pub all : source.ended reader'
     pub games : List Game
     pub rest : List ℕ
     pub are : AreGames bytes games rest
     pub white : IsWhite rest
-    pub written : WritesGames takes failed games old new
+    pub written : WritesGames sink games old new
 
   pub record EndsAtFault (reader reader' : R) (old new : W) : Type 0 where
     pub games : List Game
-    pub reads : Collected gives read_failed ended reader reader' games
+    pub reads : Collected source reader reader' games
     pub needed : HoldsWhole EndsOpen [] reads.came.pieces games
     pub refused : (more : List ℕ) → (reads.all ≡ true → more ≡ []) → HasNoGame (reads.rest ++ more) × (IsWhite (reads.rest ++ more) → ⊥)
-    pub written : WritesGames takes failed games old new
+    pub written : WritesGames sink games old new
 
   -- The last read failed, or there were `most` reads.
   pub record EndsUnread (most : ℕ) (reader reader' : R) (old new : W) : Type 0 where
     pub pieces : List (List ℕ)
     pub before : R
-    pub calls : Calls gives reader pieces before
-    pub well_read : read_failed before ≡ false
+    pub calls : Calls source.gives reader pieces before
+    pub well_read : source.failed before ≡ false
     pub each : AllByRecursion (λ piece. 0 < length piece) pieces
-    pub cause : (gives before [] reader' × (read_failed reader' ≡ true)) ⊎ ((before ≡ reader') × (length pieces ≡ most))
+    pub cause : (source.gives before [] reader' × (source.failed reader' ≡ true)) ⊎ ((before ≡ reader') × (length pieces ≡ most))
     pub games : List Game
     pub rest : List ℕ
     pub are : (more : List ℕ) → AreGames (joined pieces ++ more) games (rest ++ more)
     pub none : HasNoGameYet rest
     pub ends : EndsOpen rest
-    pub written : WritesGames takes failed games old new
+    pub written : WritesGames sink games old new
 
   pub record EndsInPart (reader reader' : R) (old new : W) : Type 0 where
     pub games : List Game
-    pub reads : Collected gives read_failed ended reader reader' games
-    pub broken : Broken takes failed old (games_text games) new
+    pub reads : Collected source reader reader' games
+    pub broken : Broken sink.takes sink.failed old (games_text games) new

@@ -75,7 +75,7 @@ pub record AnsweredSoFar {C : Type 0} (reads : C → ℕ → C → Type 0) (s : 
   pub state : t ≡ after_events s (events_of first event later)
   pub each : WasFed (after_events s (Moment first ∷ event ∷ [])) later
 
--- a line over the limit, and one that found no memory while it was read, are skipped
+-- the reply to a line over the limit
 abbrev pub too_long_line : List ℕ
 too_long_line = codes "info string line too long\n"
 
@@ -83,16 +83,14 @@ too_long_line = codes "info string line too long\n"
 abbrev pub no_memory_line : List ℕ
 no_memory_line = codes "info string out of memory\n"
 
--- how a line within the limit, or over it, is replied
-abbrev pub AnsweredWithin : {A C : Type 0} → (C → ℕ → C → Type 0) → Bool → TimedSession A C → List ℕ → List (List ℕ) → TimedSession A C → Type 0
-AnsweredWithin reads true old input parts new =
-    (AnsweredSoFar reads old.session old.clock input parts new.session new.clock × (is_fed new.session ≡ false))
-    ⊎ ((line_room < length input) × (parts ≡ no_memory_line ∷ []) × (new ≡ old))
-AnsweredWithin reads false old input parts new = (parts ≡ too_long_line ∷ []) × (new ≡ old)
-
--- a line is replied whole, slices included
+-- A line is replied whole, slices included, before `quit`. One that found no memory while it was read, for which there isn't always room, and one over
+-- the limit are skipped.
 abbrev pub Answered : {A C : Type 0} → (C → ℕ → C → Type 0) → TimedSession A C → List ℕ → List (List ℕ) → TimedSession A C → Type 0
-Answered reads old input parts new = (old.session.ended ≡ false) × AnsweredWithin reads (nat_le (length input) line_limit) old input parts new
+Answered reads old input parts new =
+    (old.session.ended ≡ false)
+    × (((length input ≤ line_limit) × AnsweredSoFar reads old.session old.clock input parts new.session new.clock × (is_fed new.session ≡ false))
+    ⊎ ((length input ≤ line_limit) × (line_room < length input) × (parts ≡ no_memory_line ∷ []) × (new ≡ old))
+    ⊎ ((line_limit < length input) × (parts ≡ too_long_line ∷ []) × (new ≡ old)))
 
 -- a line is replied up to some slice, where a write failed
 abbrev pub AnsweredInPart : {A C : Type 0} → (C → ℕ → C → Type 0) → TimedSession A C → List ℕ → List (List ℕ) → TimedSession A C → Type 0

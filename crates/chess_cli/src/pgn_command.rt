@@ -42,7 +42,7 @@ fn write_one<'a, A: Allocator, W: Sink>(
     texts: &Texts<'a, A>,
     writer: &mut W,
 ) -> Result<(), Ended>
-    ensures { WritesOne W.takes W.failed (game_text (game_of game.now)) writer.old writer.new result }
+    ensures { WritesOne W.Sink (game_text (game_of game.now)) writer.old writer.new result }
 {
     let Ok(text) = write_game_with(alloc, game, texts) else {
         return Err(Ended::Memory);
@@ -75,7 +75,7 @@ fn write_games<'a, A: Allocator, R: Source, W: Sink>(
     requires reads { games.old.text.reads ≡ most_reads }
     requires reader { R.failed games.old.text.source ≡ false }
     requires writer { W.failed writer.old ≡ false }
-    ensures { WritesAll R.gives R.failed R.ended W.takes W.failed games.old.text.source games.new.text.source writer.old writer.new result }
+    ensures { WritesAll R.Source W.Sink games.old.text.source games.new.text.source writer.old writer.new result }
 {
     let mut texts = Texts::new(alloc);
     for _game in 0..GAMES {
@@ -106,7 +106,7 @@ fn write_lent<'a, A: Allocator, R: Source, W: Sink>(
     requires reader { R.failed games.old.text.source.reader.now ≡ false }
     requires writer { W.failed writer.old ≡ false }
     ensures same { games.new.text.source.reader.ghost_name ≡ games.old.text.source.reader.ghost_name }
-    ensures ends { CollectionEnds R.gives R.failed W.takes W.failed R.ended result games.old.text.source.reader.now games.new.text.source.reader.now writer.old writer.new }
+    ensures ends { CollectionEnds R.Source W.Sink result games.old.text.source.reader.now games.new.text.source.reader.now writer.old writer.new }
 {
     write_games(alloc, games, writer)
 }
@@ -114,14 +114,14 @@ fn write_lent<'a, A: Allocator, R: Source, W: Sink>(
 /// Reads the games of the reader one after another, and writes each in export form (PGN 3.2) on the writer before it reads the next.
 ///
 /// `Good`: the input has ended, all its games are written, and no call failed. `Input`: the games before the fault are written, and no game
-/// stands after them, whatever comes next, and not white alone. `ReadFault`: a read failed, the last, or there were 2^40, each of a byte or
-/// more; each game that stands in what was read, whatever comes next, is written. `WriteFault`: a write failed or took no byte, and a prefix
+/// comes after them, whatever comes next, and not white alone. `ReadFault`: a read failed, the last, or there were 2^40, each of a byte or
+/// more; each game that is in what was read, whatever comes next, is written. `WriteFault`: a write failed or took no byte, and a prefix
 /// of the games is written. `Memory`: there was none to read on, or for the text of a game; those before it are written. No read failed but
 /// at `ReadFault`, and nothing is read after any of these.
 pub fn pgn<A: Allocator, R: Source, W: Sink>(alloc: A, reader: &mut R, writer: &mut W) -> Ended
     requires reader { R.failed reader.old ≡ false }
     requires writer { W.failed writer.old ≡ false }
-    ensures { CollectionEnds R.gives R.failed W.takes W.failed R.ended result reader.old reader.new writer.old writer.new }
+    ensures { CollectionEnds R.Source W.Sink result reader.old reader.new writer.old writer.new }
 {
     let mut games = Games::new(&alloc, Lent { reader });
     let ended = write_lent(&alloc, &mut games, writer);

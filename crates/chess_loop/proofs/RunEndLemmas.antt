@@ -1,21 +1,27 @@
 -- How a run ends whose handler always takes lines, and answers a line whole even where its text isn't written whole.
 use Rattle.std.specs.List.{AllByRecursion}
-use Rattle.std.proofs.Common.{◌≡◌, ℕ, ◌<◌, ◌≤◌, ◌⊎◌, Bool, true, true≢false, inl, inr, List, [], ◌∷◌, ◌++◌, length, sym, ap, ◌∙◌, append_assoc, append-nil, arith}
+use Rattle.std.proofs.Common.{◌≡◌, ℕ, ◌<◌, ◌≤◌, ◌⊎◌, Bool, true, false, true≢false, inl, inr, List, [], ◌∷◌, ◌++◌, length, sym, ap, ◌∙◌, append_assoc, append-nil, arith}
 use Rattle.byte_streams.specs.Calls.{Calls, joined}
+use Rattle.byte_streams.specs.declared.source.Source.{Ghosts as Source}
+use Rattle.byte_streams.specs.declared.sink.Sink.{Ghosts as Sink}
 use Rattle.byte_streams.proofs.CallLemmas.{joined-append, Calls-left}
-use Rattle.chess_loop.specs.RunEnds.{Awaited, IsPrefix, EndsGood, EndsOver, EndsReadFault, EndsWriteFault, UpToLast, never}
+use Rattle.chess_loop.specs.RunEnds.{Awaited, Handler, IsPrefix, EndsGood, EndsOver, EndsReadFault, EndsWriteFault, UpToLast, in_parts, in_texts}
 use Rattle.chess_loop.specs.InputLines.{ended_lines, last_line, lines_of, line_buffer}
 use Rattle.chess_loop.proofs.EndLemmas.{length-joined}
 use Rattle.chess_loop.proofs.LineLemmas.{ended_lines-append}
-use Rattle.chess_loop.specs.Runs.{AnyRest, Counted, InOne, Partly, Runs, Whole}
+use Rattle.chess_loop.specs.Runs.{Counted, InOne, Partly, Runs}
 use Rattle.chess_loop.proofs.RunLemmas.{Runs-more, in_one, uncounted}
 
-module _ {S R W : Type 0} (step : S → List ℕ → List ℕ → S → Type 0) (beginning : S) (gives : R → List ℕ → R → Type 0) (read_failed : R → Bool) (takes : W → List ℕ → W → Type 0) (write_failed : W → Bool) where
-  pub never_over : (ended : R → Type 0) (state : S) (r r' : R) (w w' : W)
-      → EndsGood (Runs (Whole (InOne step))) never beginning gives read_failed takes write_failed ended state r r' w w'
-      ⊎ EndsOver (Runs (Whole (InOne step))) never beginning gives read_failed takes write_failed state r r' w w'
-      → EndsGood (Runs step) never beginning gives read_failed takes write_failed ended state r r' w w'
-  never_over ended state r r' w w' (inl good) = record {
+-- a handler that answers each line in one part
+abbrev pub one_part : {S : Type 0} → (S → List ℕ → List ℕ → S → Type 0) → S → Handler S
+one_part step beginning = in_parts (InOne step) (InOne step) (λ _. false) beginning
+
+module _ {S R W : Type 0} (step : S → List ℕ → List ℕ → S → Type 0) (beginning : S) (source : Source R) (sink : Sink W) where
+  pub never_over : (state : S) (r r' : R) (w w' : W)
+      → EndsGood (one_part step beginning) source sink state r r' w w'
+      ⊎ EndsOver (one_part step beginning) source sink state r r' w w'
+      → EndsGood (in_texts step beginning) source sink state r r' w w'
+  never_over state r r' w w' (inl good) = record {
     pieces = good.pieces;
     text = good.text;
     reads = good.reads;
@@ -26,11 +32,11 @@ module _ {S R W : Type 0} (step : S → List ℕ → List ℕ → S → Type 0) 
     writes = good.writes;
     well_written = good.well_written;
   }
-  never_over ended state r r' w w' (inr over) = absurd (true≢false (sym over.is_over))
+  never_over state r r' w w' (inr over) = absurd (true≢false (sym over.is_over))
 
   pub unread_ends : (most : ℕ) (state : S) (r r' : R) (w w' : W)
-      → EndsReadFault (Runs (Whole (InOne step))) never beginning gives read_failed takes write_failed most state r r' w w'
-      → EndsReadFault (Runs step) never beginning gives read_failed takes write_failed most state r r' w w'
+      → EndsReadFault (one_part step beginning) source sink most state r r' w w'
+      → EndsReadFault (in_texts step beginning) source sink most state r r' w w'
   unread_ends most state r r' w w' end = record {
     pieces = end.pieces;
     text = end.text;
@@ -54,7 +60,7 @@ module _ {S R W : Type 0} (step : S → List ℕ → List ℕ → S → Type 0) 
       rw (broken.lines_are, broken.text_is)
       (in_one step old new (broken.done ++ broken.line ∷ []) (broken.answers ++ broken.begun) (uncounted (InOne step) (old, 0) (new, most) (broken.done ++ broken.line ∷ []) (broken.answers ++ broken.begun) all))
 
-  abbrev earlier_lines : (r r' : R) → UpToLast (Runs (Whole (InOne step))) never beginning gives read_failed r r' → UpToLast (Runs step) never beginning gives read_failed r r'
+  abbrev earlier_lines : (r r' : R) → UpToLast (one_part step beginning) source r r' → UpToLast (in_texts step beginning) source r r'
   earlier_lines r r' u = record {
     pieces = u.pieces;
     piece = u.piece;
@@ -66,10 +72,10 @@ module _ {S R W : Type 0} (step : S → List ℕ → List ℕ → S → Type 0) 
     awake = u.awake;
   }
 
-  pub whole_ends : (ended : R → Type 0) (state : S) (r r' : R) (w w' : W)
-      → EndsWriteFault (Runs (Whole (InOne step))) never beginning gives read_failed takes write_failed (Partly (InOne step) (InOne step)) ended state r r' w w'
-      → EndsWriteFault (Runs step) never beginning gives read_failed takes write_failed (AnyRest (Runs step)) ended state r r' w w'
-  whole_ends ended state r r' w w' end = record {
+  pub whole_ends : (state : S) (r r' : R) (w w' : W)
+      → EndsWriteFault (one_part step beginning) source sink state r r' w w'
+      → EndsWriteFault (in_texts step beginning) source sink state r r' w w'
+  whole_ends state r r' w w' end = record {
     earlier = earlier_lines r r' end.earlier;
     before = end.before;
     lines = end.lines;

@@ -2,9 +2,8 @@
 //!
 //! The answers to the lines of one read are written before the next, with as few calls as fit a page.
 ghost use Rattle.std.specs.Prelude.{◌≡◌, ◌+◌, ◌≤◌, List, ℕ, [], ◌<◌, false, length, OnOk};
-ghost use Rattle.chess_loop.specs.Runs.{Runs, Partly, Whole};
 ghost use Rattle.chess_loop.specs.steps.Reads.{AnswersHeld, Feeds, Finishes, Holds};
-ghost use Rattle.chess_loop.specs.RunEnds.{LoopEnds};
+ghost use Rattle.chess_loop.specs.RunEnds.{LoopEnds, in_parts};
 
 use super::buffers::filled;
 use super::handler::LineHandler;
@@ -121,8 +120,7 @@ fn answer_all<E: LineHandler, A: Allocator, R: Source, W: Sink>(
     requires reader { R.failed reader.old ≡ false }
     requires buffer { 0 < length buffer.old }
     requires writer { W.failed writer.old ≡ false }
-    ensures { LoopEnds (Runs (Whole E.step)) E.over engine.old R.gives R.failed W.takes W.failed (Partly E.step E.cut) R.ended most result engine.new
-        reader.old reader.new writer.old writer.new }
+    ensures { LoopEnds (in_parts E.step E.cut E.over engine.old) R.Source W.Sink most result engine.new reader.old reader.new writer.old writer.new }
 {
     for _turn in 0..most {
         match reader.read(buffer) {
@@ -158,8 +156,7 @@ pub fn run<E: LineHandler, A: Allocator, R: Source, W: Sink>(
     requires awake { E.over engine.old ≡ false }
     requires reader { R.failed reader.old ≡ false }
     requires writer { W.failed writer.old ≡ false }
-    ensures { LoopEnds (Runs (Whole E.step)) E.over engine.old R.gives R.failed W.takes W.failed (Partly E.step E.cut) R.ended most result engine.new
-        reader.old reader.new writer.old writer.new }
+    ensures { LoopEnds (in_parts E.step E.cut E.over engine.old) R.Source W.Sink most result engine.new reader.old reader.new writer.old writer.new }
 {
     let (Ok(mut buffer), Ok(mut line), Ok(mut page)) = (
         filled(alloc, 0u8, PIECE),

@@ -44,7 +44,7 @@ pub enum GamesFault {
 
 // The fault where there is no item: a comment without its end is cut off by the end of the input.
 fn aground<A: Allocator>(
-    reader: &Reader<'_, '_, A>,
+    reader: &Reader<'_, A>,
     unread: &[u8],
     at: usize,
     place: Place,
@@ -58,7 +58,7 @@ fn aground<A: Allocator>(
 
 // Ends the reading that has stopped; a fault where what was read is no game.
 fn end_reading<A: Allocator>(
-    reader: &mut Reader<'_, '_, A>,
+    reader: &mut Reader<'_, A>,
     stopped: Stopped,
     unread: &[u8],
 ) -> Result<(), PgnFault>
@@ -76,8 +76,8 @@ fn end_reading<A: Allocator>(
 }
 
 // The game whose reading has stopped.
-fn stopped_game<'a, 'k, A: Allocator>(
-    reader: Reader<'a, 'k, A>,
+fn stopped_game<'a, A: Allocator>(
+    reader: Reader<'a, A>,
     stopped: Stopped,
     unread: &[u8],
     texts: &mut Texts<'a, A>,
@@ -102,7 +102,7 @@ fn is_flooded(stopped: Stopped) -> bool
 }
 
 // Where the reading has stopped; none, where white space alone came before what reaches past the limit, and all of it is used.
-fn halt_of<A: Allocator>(reader: &Reader<'_, '_, A>, stopped: Stopped) -> Option<Halt>
+fn halt_of<A: Allocator>(reader: &Reader<'_, A>, stopped: Stopped) -> Option<Halt>
     ensures { result ≡ halt_at (is_flood stopped.why stopped.white) (record { place = stopped.place; at = stopped.at; begun = reader.now.moving; white = stopped.white }) }
 {
     if is_flooded(stopped) {

@@ -11,9 +11,9 @@ ghost use Rattle.chess_pgn.specs.steps.Adding.{Adds};
 use crate::lines::Lines;
 use crate::speller::{Halt, Speller};
 use crate::texts::Texts;
-use chess_draws::Line;
+use chess_attack::Nothing;
+use chess_draws::LineWith;
 use chess_items::Outcome;
-use chess_key::KeyTable;
 use chess_tree::{Children, Notes, Tree};
 use chess_types::Move;
 use itoa::Buffer;
@@ -60,9 +60,9 @@ fn is_separated<A: Allocator>(notes: &Notes<'_>, others: &Children<'_, '_, A>) -
 }
 
 // Goes on by the move of a node, and writes it with its number where it is due, and its notes.
-fn push_move<'t, 'k, 'a, A: Allocator>(
+fn push_move<'t, 'a, A: Allocator>(
     lines: &mut Lines<'a, A>,
-    speller: &mut Speller<'t, 'k, 'a, A>,
+    speller: &mut Speller<'t, 'a, A>,
     opening: &[u8],
     due: bool,
     node: u32,
@@ -97,14 +97,14 @@ enum Task<'t, 'a, A: Allocator> {
 
 /// Writes the moves of a tree. What is still to be written stands in `tasks`, the next one last.
 #[derive(Drop)]
-struct Writer<'t, 'k, 'a, A: Allocator> {
+struct Writer<'t, 'a, A: Allocator> {
     lines: Lines<'a, A>,
     /// The line after which the next task goes on.
-    speller: Speller<'t, 'k, 'a, A>,
+    speller: Speller<'t, 'a, A>,
     tasks: Vec<Task<'t, 'a, A>, &'a A>,
 }
 
-impl<'t, 'k, 'a, A: Allocator> Writer<'t, 'k, 'a, A> {
+impl<'t, 'a, A: Allocator> Writer<'t, 'a, A> {
     ghost use Rattle.chess_pgn.specs.steps.Tasks as tasks;
     ghost use Rattle.chess_pgn.specs.steps.Tasks.{AreTasks, tasks_text};
     ghost use Rattle.chess_pgn.specs.steps.TaskCode.{WritesSome, returning, todo, todos};
@@ -278,11 +278,11 @@ fn push_outcome<'a, A: Allocator>(
 }
 
 // The moves of a tree, of which a speller finds the texts from the beginning.
-fn push_moves<'t, 'k, 'a, A: Allocator>(
+fn push_moves<'t, 'a, A: Allocator>(
     lines: Lines<'a, A>,
     alloc: &'a A,
     tree: &'t Tree<'a, A>,
-    speller: Speller<'t, 'k, 'a, A>,
+    speller: Speller<'t, 'a, A>,
 ) -> Result<Lines<'a, A>, Halt>
     requires start { speller ≡ record { start = tree.now.tree.start; moves = [] } }
     ensures { IfOk result (λ after. Adds lines.entry after (moves_text false true tree.now.tree.start tree.now.tree.below)) }
@@ -307,11 +307,10 @@ fn push_made<'a, A: Allocator>(
 ) -> Result<Lines<'a, A>, Halt>
     ensures { IfOk result (λ after. Adds lines.entry after (moves_text false true tree.now.tree.start tree.now.tree.below)) }
 {
-    let table = KeyTable::new([0; 768]);
     let Ok(start) = tree.position().clone() else {
         unreachable!();
     };
-    let speller = Speller::making(Line::start(alloc, start, &table));
+    let speller = Speller::making(LineWith::with(alloc, start, Nothing));
     push_moves(lines, alloc, tree, speller)
 }
 

@@ -11,13 +11,13 @@ ghost use Rattle.chess_tree.specs.GameTree.{line_to};
 
 use arrayvec::ArrayString;
 use chess_san::at_a_glance;
-use chess_tree::Analysis;
+use chess_tree::PlainAnalysis;
 use chess_types::Move;
 use std::alloc::Allocator;
 
 // The mark after the text of the move that was made last.
 #[tactic(auto, unfolding(chess_san::specs::Writing::mark_text))]
-fn mark<'a, 'k, A: Allocator>(analysis: &mut Analysis<'a, 'k, A>) -> &'static str
+fn mark<'a, A: Allocator>(analysis: &mut PlainAnalysis<'a, A>) -> &'static str
     ensures value { result.now ≡ mark_text (last (line_to analysis.old)) }
     ensures len { length result.now ≤ 1 }
     ensures as_before { analysis.new ≡ analysis.old }
@@ -32,8 +32,8 @@ fn mark<'a, 'k, A: Allocator>(analysis: &mut Analysis<'a, 'k, A>) -> &'static st
 }
 
 /// The text of a legal move that is read, and whether its mark is in it already.
-pub fn before<'a, 'k, A: Allocator>(
-    analysis: &mut Analysis<'a, 'k, A>,
+pub fn before<'a, A: Allocator>(
+    analysis: &mut PlainAnalysis<'a, A>,
     m: Move,
     read: &[u8],
 ) -> (ArrayString<8>, bool)
@@ -51,8 +51,8 @@ pub fn before<'a, 'k, A: Allocator>(
 }
 
 /// The same with the mark, after the move.
-pub fn marked<'a, 'k, A: Allocator>(
-    analysis: &mut Analysis<'a, 'k, A>,
+pub fn marked<'a, A: Allocator>(
+    analysis: &mut PlainAnalysis<'a, A>,
     text: ArrayString<8>,
     whole: bool,
 ) -> ArrayString<8>

@@ -19,25 +19,25 @@ use std::alloc::Allocator;
 
 /// Reads a game, item by item (PGN 8). Tags and comments come first; the movetext begins at any other item but white space.
 #[derive(Drop)]
-pub struct Reader<'a, 'k, A: Allocator> {
+pub struct Reader<'a, A: Allocator> {
     alloc: &'a A,
     header: Header<'a, A>,
-    moves: Moves<'a, 'k, A>,
+    moves: Moves<'a, A>,
     outcome: Outcome,
     /// Whether the movetext has begun.
     moving: bool,
 }
 
-impl<'a, 'k, A: Allocator> Reader<'a, 'k, A> {
+impl<'a, A: Allocator> Reader<'a, A> {
     /// Nothing read, and whether the texts of moves are wanted. Takes no memory.
     #[tactic(auto, unfolding(chess_types::specs::board::Position::start))]
-    pub fn new(alloc: &'a A, basis: &'k Basis, wanted: bool) -> Reader<'a, 'k, A>
+    pub fn new(alloc: &'a A, basis: &Basis, wanted: bool) -> Reader<'a, A>
         ensures { IsNew result }
     {
         Reader {
             alloc,
             header: Header::new(alloc),
-            moves: Moves::new(alloc, basis.start(), basis.table(), wanted),
+            moves: Moves::new(alloc, basis.start(), wanted),
             outcome: Outcome::Unfinished,
             moving: false,
         }
@@ -191,7 +191,7 @@ impl<'a, 'k, A: Allocator> Reader<'a, 'k, A> {
     }
 }
 
-impl<'a, 'k, A: Allocator> Taker for Reader<'a, 'k, A> {
+impl<'a, A: Allocator> Taker for Reader<'a, A> {
     ghost use Rattle.chess_pgn.specs.steps.ReaderCode.{TakesItem};
 
     ghost takes = { λ old at item result new. TakesItem old item result new };

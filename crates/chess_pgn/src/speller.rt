@@ -13,7 +13,7 @@ ghost use Rattle.chess_pgn.specs.steps.Tasks.{shortened};
 
 use crate::lines::Lines;
 use crate::texts::Texts;
-use chess_draws::Line;
+use chess_draws::PlainLine;
 use chess_types::{Colour, Move};
 use itoa::Buffer;
 use std::alloc::{AllocError, Allocator};
@@ -36,20 +36,20 @@ impl From<AllocError> for Halt {
 
 /// How the texts are found.
 #[derive(Drop)]
-pub enum Way<'t, 'k, 'a, A: Allocator> {
+pub enum Way<'t, 'a, A: Allocator> {
     /// By making the moves.
-    Made(Line<'k, &'a A>),
+    Made(PlainLine<&'a A>),
     /// Among the known ones, by the place of the last move.
     Known(&'t Texts<'a, A>, usize),
 }
 
 /// Finds the texts of moves along the lines of a game, forward and back. Contracts see the line.
 #[derive(Drop)]
-pub struct Speller<'t, 'k, 'a, A: Allocator> {
-    way: Way<'t, 'k, 'a, A>,
+pub struct Speller<'t, 'a, A: Allocator> {
+    way: Way<'t, 'a, A>,
 }
 
-impl<'t, 'k, 'a, A: Allocator> Model for Speller<'t, 'k, 'a, A> {
+impl<'t, 'a, A: Allocator> Model for Speller<'t, 'a, A> {
     ghost use Rattle.chess_types.specs.board.Lines.{Line};
     ghost use Rattle.chess_pgn.specs.steps.Spelling.{IsStill, line_of};
     ghost use Rattle.chess_types.specs.steps.LineCode.{coded_line};
@@ -99,8 +99,8 @@ fn push_spoken<'a, A: Allocator>(
 }
 
 // Makes a move, and writes it: its mark is asked after it.
-fn make<'k, 'a, A: Allocator>(
-    line: &mut Line<'k, &'a A>,
+fn make<'a, A: Allocator>(
+    line: &mut PlainLine<&'a A>,
     lines: &mut Lines<'a, A>,
     opening: &[u8],
     due: bool,
@@ -153,9 +153,9 @@ fn follow<'a, A: Allocator>(
     Ok(())
 }
 
-impl<'t, 'k, 'a, A: Allocator> Speller<'t, 'k, 'a, A> {
+impl<'t, 'a, A: Allocator> Speller<'t, 'a, A> {
     /// By the moves made on a line.
-    pub fn making(line: Line<'k, &'a A>) -> Speller<'t, 'k, 'a, A>
+    pub fn making(line: PlainLine<&'a A>) -> Speller<'t, 'a, A>
         requires still { line.looked ≡ 0 }
         ensures { result ≡ line.entry.line }
     {
@@ -165,7 +165,7 @@ impl<'t, 'k, 'a, A: Allocator> Speller<'t, 'k, 'a, A> {
     }
 
     /// Among those that are known of a game that begins as usual.
-    pub fn knowing(texts: &'t Texts<'a, A>) -> Speller<'t, 'k, 'a, A>
+    pub fn knowing(texts: &'t Texts<'a, A>) -> Speller<'t, 'a, A>
         ensures { result ≡ record { start = start; moves = [] } }
     {
         Speller {

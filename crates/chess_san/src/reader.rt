@@ -12,8 +12,9 @@ use crate::fault::SanFault;
 use crate::form::{Course, Form};
 use crate::names::names;
 use crate::origins::origins;
+use chess_attack::Follower;
 use chess_moves::is_legal;
-use chess_play::Live;
+use chess_play::LiveWith;
 use chess_types::{Kind, Move, Setup, Square, SquareSet};
 
 /// The square of the file and the rank alone, where both are below 8.
@@ -52,7 +53,7 @@ fn form_origins(setup: &Setup, form: &Form) -> SquareSet
 }
 
 /// Whether the form names the move, and it is legal.
-fn is_named(live: &mut Live, form: &Form, m: Move) -> bool
+fn is_named<F: Follower>(live: &mut LiveWith<F>, form: &Form, m: Move) -> bool
     requires clock { live.old.position.clock ≤ 1000000 }
     requires number { live.old.position.number ≤ 1000000 }
     ensures value { result ≡ legal_and (names live.old.position form.now) live.old.position m }
@@ -63,8 +64,8 @@ fn is_named(live: &mut Live, form: &Form, m: Move) -> bool
 }
 
 /// Those of the squares from which legal moves of the form go to the target, where their man becomes that.
-fn named_among(
-    live: &mut Live,
+fn named_among<F: Follower>(
+    live: &mut LiveWith<F>,
     form: &Form,
     all: SquareSet,
     to: Square,
@@ -85,7 +86,12 @@ fn named_among(
 }
 
 /// All of them.
-fn named_from(live: &mut Live, form: &Form, to: Square, promo: Option<Kind>) -> SquareSet
+fn named_from<F: Follower>(
+    live: &mut LiveWith<F>,
+    form: &Form,
+    to: Square,
+    promo: Option<Kind>,
+) -> SquareSet
     requires clock { live.old.position.clock ≤ 1000000 }
     requires number { live.old.position.number ≤ 1000000 }
     ensures named { Begins result (names live.old.position form.now) live.old.position to promo }
@@ -111,8 +117,8 @@ fn only_from(from: SquareSet, to: Square, promo: Option<Kind>) -> Result<Move, S
 }
 
 /// The only legal move of the form to the target: the form says where its moves go and what they become.
-fn only_named(
-    live: &mut Live,
+fn only_named<F: Follower>(
+    live: &mut LiveWith<F>,
     form: &Form,
     to: Square,
     promo: Option<Kind>,
@@ -129,7 +135,7 @@ fn only_named(
 }
 
 /// The only legal move that the form names.
-fn named(live: &mut Live, form: &Form) -> Result<Move, SanFault>
+fn named<F: Follower>(live: &mut LiveWith<F>, form: &Form) -> Result<Move, SanFault>
     requires clock { live.old.position.clock ≤ 1000000 }
     requires number { live.old.position.number ≤ 1000000 }
     ensures value { result ≡ the_one (filter (names live.old.position form.now) (legal_moves live.old.position)) }
@@ -153,7 +159,7 @@ fn named(live: &mut Live, form: &Form) -> Result<Move, SanFault>
 ///
 /// `Form` where the text has none of the forms, `Illegal` where it names no legal move, `Ambiguous` where it names more than one.
 #[tactic(auto, unfolding(crate::specs::Naming::san_reading))]
-pub fn read(live: &mut Live, text: &[u8]) -> Result<Move, SanFault>
+pub fn read<F: Follower>(live: &mut LiveWith<F>, text: &[u8]) -> Result<Move, SanFault>
     requires clock { live.old.position.clock ≤ 1000000 }
     requires number { live.old.position.number ≤ 1000000 }
     ensures value { result ≡ san_reading live.old.position text.now }

@@ -16,8 +16,9 @@ use crate::form::Origin;
 use crate::names::is_kind;
 use crate::origins::origins;
 use arrayvec::ArrayString;
+use chess_attack::Follower;
 use chess_moves::{has_legal, in_check, is_legal};
-use chess_play::{Live, is_en_passant};
+use chess_play::{LiveWith, is_en_passant};
 use chess_types::{Kind, Man, Move, Setup, Square, SquareSet, Wing};
 
 fn is_rival(setup: &Setup, kind: Kind, from: Square, to: Square, other: Move) -> bool
@@ -27,7 +28,13 @@ fn is_rival(setup: &Setup, kind: Kind, from: Square, to: Square, other: Move) ->
 }
 
 /// Whether the move is that of a rival, and legal.
-fn is_legal_rival(live: &mut Live, kind: Kind, from: Square, to: Square, other: Move) -> bool
+fn is_legal_rival<F: Follower>(
+    live: &mut LiveWith<F>,
+    kind: Kind,
+    from: Square,
+    to: Square,
+    other: Move,
+) -> bool
     requires clock { live.old.position.clock ≤ 1000000 }
     requires number { live.old.position.number ≤ 1000000 }
     ensures value { result ≡ legal_and (is_rival live.old.position kind from to) live.old.position other }
@@ -38,7 +45,13 @@ fn is_legal_rival(live: &mut Live, kind: Kind, from: Square, to: Square, other: 
 }
 
 /// Those of the squares from which rivals have a legal move to the target.
-fn rivals_among(live: &mut Live, kind: Kind, all: SquareSet, from: Square, to: Square) -> SquareSet
+fn rivals_among<F: Follower>(
+    live: &mut LiveWith<F>,
+    kind: Kind,
+    all: SquareSet,
+    from: Square,
+    to: Square,
+) -> SquareSet
     requires clock { live.old.position.clock ≤ 1000000 }
     requires number { live.old.position.number ≤ 1000000 }
     ensures rivals { BeginsAmong all result (is_rival live.old.position kind from to) live.old.position to None }
@@ -59,7 +72,7 @@ fn rivals_among(live: &mut Live, kind: Kind, all: SquareSet, from: Square, to: S
 }
 
 /// All of them.
-fn rivals(live: &mut Live, kind: Kind, from: Square, to: Square) -> SquareSet
+fn rivals<F: Follower>(live: &mut LiveWith<F>, kind: Kind, from: Square, to: Square) -> SquareSet
     requires clock { live.old.position.clock ≤ 1000000 }
     requires number { live.old.position.number ≤ 1000000 }
     ensures rivals { Begins result (is_rival live.old.position kind from to) live.old.position to None }
@@ -118,7 +131,7 @@ fn origin_by(none: bool, file: bool, rank: bool, from: Square) -> Origin
 }
 
 /// What distinguishes the man that moves from its rivals.
-fn origin_of(live: &mut Live, kind: Kind, from: Square, to: Square) -> Origin
+fn origin_of<F: Follower>(live: &mut LiveWith<F>, kind: Kind, from: Square, to: Square) -> Origin
     requires plain { is_pawn kind ≡ false }
     requires clock { live.old.position.clock ≤ 1000000 }
     requires number { live.old.position.number ≤ 1000000 }
@@ -249,7 +262,7 @@ pub(crate) fn text_by(setup: &Setup, man: Man, origin: Origin, m: Move) -> Array
 }
 
 // The text of a man's move without the mark of check or mate.
-fn bare_text(live: &mut Live, man: Man, m: Move) -> ArrayString<8>
+fn bare_text<F: Follower>(live: &mut LiveWith<F>, man: Man, m: Move) -> ArrayString<8>
     requires here { man_on live.old.position m.from ≡ Some man }
     requires clock { live.old.position.clock ≤ 1000000 }
     requires number { live.old.position.number ≤ 1000000 }
@@ -268,7 +281,7 @@ fn bare_text(live: &mut Live, man: Man, m: Move) -> ArrayString<8>
 /// The mark after the text of the move that led to a position: `+` where its king is in check, `#` where it is mated,
 /// nothing else (PGN 8.2.3.5). Both counters are at most 1,000,000. All is as before but for the ticks.
 #[tactic(auto, unfolding(crate::specs::Writing::mark_text))]
-pub fn write_mark(live: &mut Live) -> &'static str
+pub fn write_mark<F: Follower>(live: &mut LiveWith<F>) -> &'static str
     requires clock { live.old.position.clock ≤ 1000000 }
     requires number { live.old.position.number ≤ 1000000 }
     ensures value { result.now ≡ mark_text live.old.position }
@@ -295,7 +308,7 @@ pub(crate) fn man_of(setup: &Setup, m: Move) -> Option<Man>
 /// The text of a legal move in standard algebraic notation (PGN 8.2.3) without its mark, at most 6 bytes: `write_mark`, asked after the
 /// move, gives the rest. The halfmove clock and the fullmove number are below 1,000,000. All is as before but for the ticks.
 #[tactic(auto, unfolding(crate::specs::Writing::san))]
-pub fn write_unmarked(live: &mut Live, m: Move) -> ArrayString<8>
+pub fn write_unmarked<F: Follower>(live: &mut LiveWith<F>, m: Move) -> ArrayString<8>
     requires legal { IsTrue (is_legal live.old.position m) }
     requires clock { live.old.position.clock < 1000000 }
     requires number { live.old.position.number < 1000000 }
@@ -312,7 +325,7 @@ pub fn write_unmarked(live: &mut Live, m: Move) -> ArrayString<8>
 
 /// The text of a legal move in standard algebraic notation (PGN 8.2.3), at most 7 bytes. It names that move alone, and `read`
 /// answers it. The halfmove clock and the fullmove number are below 1,000,000. All is as before but for the ticks.
-pub fn write(live: &mut Live, m: Move) -> ArrayString<8>
+pub fn write<F: Follower>(live: &mut LiveWith<F>, m: Move) -> ArrayString<8>
     requires legal { IsTrue (is_legal live.old.position m) }
     requires clock { live.old.position.clock < 1000000 }
     requires number { live.old.position.number < 1000000 }

@@ -1,17 +1,16 @@
 -- Why an event is replied a best move.
-use Rattle.std.proofs.Common.{◌≡◌, ℕ, ◌+◌, ◌==◌, max, Bool, true, false, ◌&&◌, not, cond, List, [], ◌∷◌, length, Option, Some, None, refl, sym, ap, ◌∙◌, arith, ℤ}
+use Rattle.std.proofs.Common.{◌≡◌, ℕ, ◌+◌, ◌==◌, max, Bool, true, false, true≢false, ◌&&◌, not, List, [], ◌∷◌, length, Option, Some, None, refl, ap, ◌∙◌, arith}
 use Rattle.std.specs.Prelude.{nat_lt}
 use Rattle.std.proofs.lemmas.Bool.Decides.{nat_tests}
 use Rattle.chess_types.specs.board.MoveParts.{MoveParts}
 use Rattle.chess_types.specs.board.Legal.{legal_moves}
 use Rattle.chess_types.specs.board.Lines.{Line as GameLine, last}
-use Rattle.chess_search.specs.Best.{best}
 use Rattle.chess_uci.specs.Placing.{placed}
 use Rattle.chess_uci.specs.Commands.{Command, Idle, Position, Go, SetOption, command_in, without_memory, claims_set}
 use Rattle.chess_uci.specs.Go.{fields}
-use Rattle.chess_uci.specs.Machine.{Event, Line, Starved, Slice, Moment, Search, State, Step, step, live_step, line_step, idle_command, busy_command, go_among, placed_at, set_claims, slice_step, slice_if, sliced, complete, moment_step, end_if, is_reached, begun}
+use Rattle.chess_uci.specs.Machine.{Event, Line, Starved, Slice, Moment, Search, State, Step, step, live_step, line_step, idle_command, busy_command, go_among, placed_at, set_claims, slice_step, slice_row, depth_best, chosen, moment_step, end_if, is_reached, begun}
 use Rattle.chess_uci.specs.Laws.{one, best_moves, cause, by_depth, by_time, by_line, by_command, at_once, is_stop}
-use Rattle.chess_uci.proofs.CountLemmas.{step_live}
+use Rattle.chess_uci.proofs.CountLemmas.{no_best_move, one_best_move, step_live}
 
 go_cause : (legal : List MoveParts) (infinite : Bool) (x : Search) (s : State) → best_moves (go_among legal infinite x s).0 ≡ one (at_once legal infinite)
 go_cause [] false x s = refl
@@ -40,33 +39,22 @@ line_cause : (s : State) (x : Option Search) (c : Command) → best_moves (line_
 line_cause s None c = idle_cause s c
 line_cause s (Some x) c = busy_cause x s c
 
-complete_cause : (last infinite : Bool) (x : Search) (best : Option (MoveParts × ℤ)) → best_moves (complete last infinite x best).0 ≡ one (last && not infinite)
-complete_cause true true x None = refl
-complete_cause true false x None = refl
-complete_cause false infinite x None = refl
-complete_cause _ _ x _ = refl
-
-and_assoc_one : (a b c : Bool) → one (a && b && c) ≡ cond a (one (b && c)) 0
-and_assoc_one true b c = refl
-and_assoc_one false b c = refl
-
-sliced_cause : (l : GameLine) (all : Bool) (x : Search) →
-    best_moves (sliced l all x).0 ≡ cond all (one ((x.depth == x.last) && not x.infinite)) 0
-sliced_cause l false x = refl
-sliced_cause l true x = complete_cause (x.depth == x.last) x.infinite x (best x.claims x.depth l x.roots)
-
 none_left : (n m : ℕ) → nat_lt n m ≡ false → (n + 1 == m) ≡ false
 none_left n m h = grind (arith, nat_tests)
 
-slice_cause : (l : GameLine) (left : Bool) (x : Search) → nat_lt x.searched (length x.roots) ≡ left →
-    best_moves (slice_if l left x).0 ≡ cond (x.searched + 1 == length x.roots) (one ((x.depth == x.last) && not x.infinite)) 0
-slice_cause l false x e = rw (none_left x.searched (length x.roots) e) refl
-slice_cause l true x e = sliced_cause l (x.searched + 1 == length x.roots) (record x { searched = x.searched + 1 })
+row_cause : (left last_root last_depth infinite : Bool) (l : GameLine) (x : Search) → (left ≡ false → last_root ≡ false) →
+    best_moves (slice_row left last_root last_depth infinite l x).0 ≡ one (last_root && last_depth && not infinite)
+row_cause false false _ _ l x none = refl
+row_cause false true _ _ l x none = absurd (true≢false (none refl))
+row_cause true false _ _ l x none = refl
+row_cause true true false _ l x none = no_best_move x.depth (depth_best l x)
+row_cause true true true true l x none = no_best_move x.depth (depth_best l x)
+row_cause true true true false l x none = one_best_move x.depth (depth_best l x) (chosen (depth_best l x) x.roots)
 
 slice_step_cause : (s : State) (x : Option Search) → best_moves (slice_step x s).0 ≡ one (by_depth x)
 slice_step_cause s None = refl
 slice_step_cause s (Some x) =
-    slice_cause s.line (nat_lt x.searched (length x.roots)) x refl ∙ sym (and_assoc_one (x.searched + 1 == length x.roots) (x.depth == x.last) (not x.infinite))
+    row_cause (nat_lt x.searched (length x.roots)) (x.searched + 1 == length x.roots) (x.depth == x.last) x.infinite s.line x (none_left x.searched (length x.roots))
 
 end_cause : (reached : Bool) (x : Search) → best_moves (end_if reached x).0 ≡ one reached
 end_cause false x = refl

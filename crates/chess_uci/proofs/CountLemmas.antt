@@ -5,12 +5,12 @@ use Rattle.std.proofs.lemmas.List.Sums.{sum_by-append}
 use Rattle.chess_types.specs.board.MoveParts.{MoveParts}
 use Rattle.chess_types.specs.board.Legal.{legal_moves}
 use Rattle.chess_types.specs.board.Lines.{Line as GameLine, last}
-use Rattle.chess_search.specs.Best.{best}
 use Rattle.chess_uci.specs.Placing.{placed}
 use Rattle.chess_uci.specs.declared.reply.Reply.{Reply}
+use Rattle.chess_uci.specs.declared.reply.Reply.TheVariants.{BestMove}
 use Rattle.chess_uci.specs.Commands.{Command, Position, Go, Stop, Quit, SetOption, command_in, without_memory, claims_set}
 use Rattle.chess_uci.specs.Go.{fields}
-use Rattle.chess_uci.specs.Machine.{Event, Line, Starved, Slice, Moment, Search, State, Step, Turn, step, step_if, live_step, line_step, idle_command, busy_command, go_among, placed_at, set_claims, slice_step, slice_if, sliced, complete, moment_step, end_if, is_reached, begun}
+use Rattle.chess_uci.specs.Machine.{Event, Line, Starved, Slice, Moment, Search, State, Step, Turn, step, step_if, live_step, line_step, idle_command, busy_command, go_among, placed_at, set_claims, slice_step, slice_row, depth_best, chosen, info, moment_step, end_if, is_reached, begun}
 use Rattle.chess_uci.specs.Laws.{replies, after_events, one, best_moves, is_best_move, is_go, is_quit, says, running, is_taken, taken, unfinished}
 
 -- the best moves replied, and the search that runs afterwards
@@ -46,20 +46,22 @@ busy_both x s _ e q = rw e refl
 abbrev turn_both : Turn → ℕ
 turn_both t = best_moves t.0 + one (is_some t.1)
 
+-- what is reported of a depth is no best move
+pub no_best_move : (depth : ℕ) (found : Option (MoveParts × ℤ)) → best_moves (info depth found) ≡ 0
+no_best_move depth None = refl
+no_best_move depth (Some m) = refl
+
+pub one_best_move : (depth : ℕ) (found : Option (MoveParts × ℤ)) (m : Option MoveParts) → best_moves (info depth found ++ BestMove m ∷ []) ≡ 1
+one_best_move depth None m = refl
+one_best_move depth (Some b) m = refl
+
 -- a slice
-complete_both : (last infinite : Bool) (x : Search) (best : Option (MoveParts × ℤ)) → turn_both (complete last infinite x best) ≡ 1
-complete_both true true x None = refl
-complete_both true false x None = refl
-complete_both false infinite x None = refl
-complete_both _ _ x _ = refl
-
-sliced_both : (l : GameLine) (all : Bool) (x : Search) → turn_both (sliced l all x) ≡ 1
-sliced_both l false x = refl
-sliced_both l true x = complete_both (x.depth == x.last) x.infinite x (best x.claims x.depth l x.roots)
-
-slice_both : (l : GameLine) (left : Bool) (x : Search) → turn_both (slice_if l left x) ≡ 1
-slice_both l false x = refl
-slice_both l true x = sliced_both l (x.searched + 1 == length x.roots) (record x { searched = x.searched + 1 })
+row_both : (left last_root last_depth infinite : Bool) (l : GameLine) (x : Search) → turn_both (slice_row left last_root last_depth infinite l x) ≡ 1
+row_both false _ _ _ l x = refl
+row_both true false _ _ l x = refl
+row_both true true false _ l x = ap (λ n. n + 1) (no_best_move x.depth (depth_best l x))
+row_both true true true true l x = ap (λ n. n + 1) (no_best_move x.depth (depth_best l x))
+row_both true true true false l x = ap (λ n. n + 0) (one_best_move x.depth (depth_best l x) (chosen (depth_best l x) x.roots))
 
 end_both : (reached : Bool) (x : Search) → turn_both (end_if reached x) ≡ 1
 end_both false x = refl
@@ -74,7 +76,7 @@ line_both s (Some x) c e q = busy_both x s c e q
 slice_step_both : (s : State) (x : Option Search) → s.search ≡ x →
     both (slice_step x s) ≡ one (is_taken false (is_some x) false) + one (is_some x)
 slice_step_both s None e = rw e refl
-slice_step_both s (Some x) e = slice_both s.line (nat_lt x.searched (length x.roots)) x
+slice_step_both s (Some x) e = row_both (nat_lt x.searched (length x.roots)) (x.searched + 1 == length x.roots) (x.depth == x.last) x.infinite s.line x
 
 moment_step_both : (s : State) (x : Option Search) → s.search ≡ x →
     both (moment_step x s) ≡ one (is_taken false (is_some x) false) + one (is_some x)

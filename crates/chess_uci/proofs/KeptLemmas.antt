@@ -1,15 +1,16 @@
 -- What a search keeps and reports is the best.
-use Rattle.std.proofs.Common.{◌≡◌, ℕ, zero, suc, ◌+◌, ◌==◌, ◌<◌, max, Bool, true, false, List, [], ◌∷◌, length, Option, Some, None, refl, sym, ap, ◌∙◌, subst, arith, ℤ}
+use Rattle.std.proofs.Common.{◌≡◌, ℕ, zero, suc, ◌+◌, ◌==◌, ◌<◌, max, Bool, true, false, List, [], ◌∷◌, ◌++◌, length, Option, Some, None, refl, sym, ap, ◌∙◌, subst, arith, ℤ}
 use Rattle.std.specs.Prelude.{nat_lt, ⊤}
 use Rattle.chess_types.specs.board.MoveParts.{MoveParts}
 use Rattle.chess_types.specs.board.Legal.{legal_moves}
 use Rattle.chess_types.specs.board.Lines.{Line as GameLine, last}
 use Rattle.chess_search.specs.Best.{best}
+use Rattle.chess_uci.specs.declared.reply.Reply.TheVariants.{BestMove}
 use Rattle.chess_uci.specs.Placing.{placed}
 use Rattle.chess_uci.specs.Commands.{Command, Idle, Uci, IsReady, NewGame, Position, Unplaced, Go, Stop, Quit, SetOption, command_in, without_memory, claims_set}
 use Rattle.chess_uci.specs.Go.{fields}
-use Rattle.chess_uci.specs.Machine.{Event, Line, Starved, Slice, Moment, Search, State, Step, Turn, beginning, step, step_if, live_step, line_step, idle_command, busy_command, go_among, placed_at, set_claims, slice_step, slice_if, sliced, complete, moment_step, end_if, is_reached, chosen, begun}
-use Rattle.chess_uci.specs.Laws.{after_events, Each, TellsBest, TellsTheBest, finished, best_done}
+use Rattle.chess_uci.specs.Machine.{Event, Line, Starved, Slice, Moment, Search, State, Step, Turn, beginning, step, step_if, live_step, line_step, idle_command, busy_command, go_among, placed_at, set_claims, slice_step, slice_row, depth_best, info, moment_step, end_if, is_reached, chosen, begun}
+use Rattle.chess_uci.specs.Laws.{after_events, Each, ReportsBest, ReportsTheBest, finished, best_done}
 
 -- what is kept of the last completed depth is the best there
 abbrev IsKept : GameLine → Option Search → Type 0
@@ -18,7 +19,7 @@ IsKept l (Some x) = (x.completed ≡ best_done l x x.done) × (0 < x.depth)
 
 -- a step keeps what a search keeps, and reports the best
 abbrev Good : GameLine → Option Search → Event → Step → Type 0
-Good l x event t = IsKept t.1.line t.1.search × Each (TellsBest l x event) t.0
+Good l x event t = IsKept t.1.line t.1.search × Each (ReportsBest l x event) t.0
 
 best_done_at : (l : GameLine) (x : Search) (d : ℕ) → 0 < d → best_done l x d ≡ best x.claims d l x.roots
 best_done_at l x zero h = absurd (omega arith)
@@ -63,24 +64,24 @@ busy_good s event x _ k e f = (k, (tt, tt))
 
 -- the same of a turn
 abbrev GoodTurn : GameLine → Search → Event → Turn → Type 0
-GoodTurn l x event t = IsKept l t.1 × Each (TellsBest l (Some x) event) t.0
+GoodTurn l x event t = IsKept l t.1 × Each (ReportsBest l (Some x) event) t.0
 
-complete_good : (l : GameLine) (last infinite : Bool) (x : Search) (kept : Option (MoveParts × ℤ)) → 0 < x.depth → kept ≡ best x.claims x.depth l x.roots →
-    GoodTurn l x Slice (complete last infinite x kept)
-complete_good l false infinite x None deep e = ((e ∙ sym (best_done_at l x x.depth deep), omega arith), tt)
-complete_good l false infinite x (Some m) deep e = ((e ∙ sym (best_done_at l x x.depth deep), omega arith), ((refl, sym e), tt))
-complete_good l true true x None deep e = ((e ∙ sym (best_done_at l x x.depth deep), deep), tt)
-complete_good l true true x (Some m) deep e = ((e ∙ sym (best_done_at l x x.depth deep), deep), ((refl, sym e), tt))
-complete_good l true false x None deep e = (tt, (ap (λ b. chosen b x.roots) (e ∙ sym (best_done_at l x x.depth deep)), tt))
-complete_good l true false x (Some m) deep e = (tt, ((refl, sym e), (ap (λ b. chosen b x.roots) (e ∙ sym (best_done_at l x x.depth deep)), tt)))
+-- a depth is reported by its best
+info_good : (l : GameLine) (x : Search) (found : Option (MoveParts × ℤ)) → found ≡ best x.claims x.depth l x.roots → Each (ReportsBest l (Some x) Slice) (info x.depth found)
+info_good l x None e = tt
+info_good l x (Some m) e = ((refl, sym e), tt)
 
-sliced_good : (l : GameLine) (all : Bool) (x : Search) → IsKept l (Some x) → GoodTurn l x Slice (sliced l all x)
-sliced_good l false x k = (k, tt)
-sliced_good l true x k = complete_good l (x.depth == x.last) x.infinite x (best x.claims x.depth l x.roots) k.1 refl
+last_good : (l : GameLine) (x : Search) (found : Option (MoveParts × ℤ)) → 0 < x.depth → found ≡ best x.claims x.depth l x.roots →
+    Each (ReportsBest l (Some x) Slice) (info x.depth found ++ BestMove (chosen found x.roots) ∷ [])
+last_good l x None deep e = (ap (λ b. chosen b x.roots) (e ∙ sym (best_done_at l x x.depth deep)), tt)
+last_good l x (Some m) deep e = ((refl, sym e), (ap (λ b. chosen b x.roots) (e ∙ sym (best_done_at l x x.depth deep)), tt))
 
-slice_good : (l : GameLine) (left : Bool) (x : Search) → IsKept l (Some x) → GoodTurn l x Slice (slice_if l left x)
-slice_good l false x k = (k, tt)
-slice_good l true x k = sliced_good l (x.searched + 1 == length x.roots) (record x { searched = x.searched + 1 }) k
+row_good : (l : GameLine) (left last_root last_depth infinite : Bool) (x : Search) → IsKept l (Some x) → GoodTurn l x Slice (slice_row left last_root last_depth infinite l x)
+row_good l false _ _ _ x k = (k, tt)
+row_good l true false _ _ x k = (k, tt)
+row_good l true true false _ x k = ((sym (best_done_at l x x.depth k.1), omega arith), info_good l x (depth_best l x) refl)
+row_good l true true true true x k = ((sym (best_done_at l x x.depth k.1), k.1), info_good l x (depth_best l x) refl)
+row_good l true true true false x k = (tt, last_good l x (depth_best l x) k.1 refl)
 
 end_good : (l : GameLine) (moment : ℕ) (reached : Bool) (x : Search) → IsKept l (Some x) → GoodTurn l x (Moment moment) (end_if reached x)
 end_good l moment false x k = (k, tt)
@@ -93,7 +94,7 @@ line_good s event (Some x) c k e f = busy_good s event x c k e (f x)
 
 slice_step_good : (s : State) (x : Option Search) → IsKept s.line s.search → s.search ≡ x → Good s.line x Slice (slice_step x s)
 slice_step_good s None k e = (k, tt)
-slice_step_good s (Some x) k e = slice_good s.line (nat_lt x.searched (length x.roots)) x (subst (IsKept s.line) e k)
+slice_step_good s (Some x) k e = row_good s.line (nat_lt x.searched (length x.roots)) (x.searched + 1 == length x.roots) (x.depth == x.last) x.infinite x (subst (IsKept s.line) e k)
 
 moment_good : (s : State) (moment : ℕ) (x : Option Search) → IsKept s.line s.search → s.search ≡ x → Good s.line x (Moment moment) (moment_step x s)
 moment_good s moment None k e = (k, tt)
@@ -113,7 +114,7 @@ after_kept : (s : State) (events : List Event) → IsKept s.line s.search → Is
 after_kept s [] k = k
 after_kept s (event ∷ events) k = after_kept (step s event).1 events (step_if_good s.ended s event k).0
 
-pub tells_the_best : TellsTheBest
-tells_the_best events event =
+pub reports_the_best : ReportsTheBest
+reports_the_best events event =
     let s = after_events beginning events in
     (step_if_good s.ended s event (after_kept beginning events tt)).1

@@ -1,11 +1,9 @@
 -- While a search runs, its line, its roots, its last depth and its end stay.
-use Rattle.std.proofs.Common.{◌≡◌, ◌+◌, ◌==◌, max, Bool, true, false, length, Option, Some, refl, sym, subst, ℤ}
+use Rattle.std.proofs.Common.{◌≡◌, ◌+◌, ◌==◌, max, Bool, true, false, length, Option, Some, refl, sym, subst}
 use Rattle.std.specs.Prelude.{nat_lt}
-use Rattle.chess_types.specs.board.MoveParts.{MoveParts}
 use Rattle.chess_types.specs.board.Lines.{Line as GameLine}
-use Rattle.chess_search.specs.Best.{best}
 use Rattle.chess_uci.specs.Commands.{Command, Stop, Quit, command_in, without_memory}
-use Rattle.chess_uci.specs.Machine.{Event, Line, Starved, Slice, Moment, Search, State, Step, beginning, step_if, live_step, line_step, busy_command, slice_step, slice_if, sliced, complete, moment_step, end_if, is_reached}
+use Rattle.chess_uci.specs.Machine.{Event, Line, Starved, Slice, Moment, Search, State, Step, beginning, step_if, live_step, line_step, busy_command, slice_step, slice_row, moment_step, end_if, is_reached}
 use Rattle.chess_uci.specs.Laws.{after_events, KeepsSearching, SearchStays}
 
 here : (s : State) (x : Search) → s.search ≡ Some x → KeepsSearching s.line x s.line s.search
@@ -16,18 +14,12 @@ busy_stays s x Stop e = tt
 busy_stays s x Quit e = tt
 busy_stays s x _ e = here s x e
 
-complete_stays : (l : GameLine) (last infinite : Bool) (x : Search) (best : Option (MoveParts × ℤ)) → KeepsSearching l x l (complete last infinite x best).1
-complete_stays l false infinite x best = (refl, refl, refl, refl, refl, refl)
-complete_stays l true true x best = (refl, refl, refl, refl, refl, refl)
-complete_stays l true false x best = tt
-
-sliced_stays : (l : GameLine) (all : Bool) (x : Search) → KeepsSearching l x l (sliced l all x).1
-sliced_stays l false x = (refl, refl, refl, refl, refl, refl)
-sliced_stays l true x = complete_stays l (x.depth == x.last) x.infinite x (best x.claims x.depth l x.roots)
-
-slice_stays : (l : GameLine) (left : Bool) (x : Search) → KeepsSearching l x l (slice_if l left x).1
-slice_stays l false x = (refl, refl, refl, refl, refl, refl)
-slice_stays l true x = sliced_stays l (x.searched + 1 == length x.roots) (record x { searched = x.searched + 1 })
+row_stays : (l : GameLine) (left last_root last_depth infinite : Bool) (x : Search) → KeepsSearching l x l (slice_row left last_root last_depth infinite l x).1
+row_stays l true true true false x = tt
+row_stays l false _ _ _ x = (refl, refl, refl, refl, refl, refl)
+row_stays l true false _ _ x = (refl, refl, refl, refl, refl, refl)
+row_stays l true true false _ x = (refl, refl, refl, refl, refl, refl)
+row_stays l true true true true x = (refl, refl, refl, refl, refl, refl)
 
 end_stays : (l : GameLine) (reached : Bool) (x : Search) → KeepsSearching l x l (end_if reached x).1
 end_stays l false x = (refl, refl, refl, refl, refl, refl)
@@ -39,7 +31,7 @@ Stays s x t = KeepsSearching s.line x t.1.line t.1.search
 live_stays : (s : State) (event : Event) (x : Search) → s.search ≡ Some x → Stays s x (live_step s event)
 live_stays s (Line bytes) x e = subst (λ (y : Option Search). Stays s x (line_step s y (command_in bytes))) (sym e) (busy_stays s x (command_in bytes) e)
 live_stays s (Starved bytes) x e = subst (λ (y : Option Search). Stays s x (line_step s y (without_memory (command_in bytes)))) (sym e) (busy_stays s x (without_memory (command_in bytes)) e)
-live_stays s Slice x e = subst (λ (y : Option Search). Stays s x (slice_step y s)) (sym e) (slice_stays s.line (nat_lt x.searched (length x.roots)) x)
+live_stays s Slice x e = subst (λ (y : Option Search). Stays s x (slice_step y s)) (sym e) (row_stays s.line (nat_lt x.searched (length x.roots)) (x.searched + 1 == length x.roots) (x.depth == x.last) x.infinite x)
 live_stays s (Moment moment) x e =
     let t : State = record s { moment = max s.moment moment } in
     subst (λ (y : Option Search). Stays s x (moment_step y t)) (sym e) (end_stays s.line (is_reached x.end t.moment) x)

@@ -8,7 +8,7 @@
 --   AnswersAtTheEnd    a best move is reported exactly there, and once
 --   IsReadyAlone       `isready` is answered at its own event, and all else is as without it
 --   SilentAfterQuit    nothing is answered after `quit`
---   TellsTheBest       what is reported of a depth, and each best move, is the best among the roots
+--   ReportsTheBest     what is reported of a depth, and each best move, is the best among the roots
 --   SearchStays        the line, the roots, the last depth and the end of a search stay while it runs
 use Rattle.std.specs.Prelude.{◌≡◌, ⊤, ℕ, zero, suc, ◌+◌, ◌==◌, max, Bool, true, false, ◌&&◌, not, if◌then◌else◌, List, [], ◌∷◌, ◌++◌, length, count_by, Option, Some, None, is_some, ℤ}
 use Rattle.chess_types.specs.board.MoveParts.{MoveParts}
@@ -166,19 +166,19 @@ finished x Slice = x.depth
 finished x (Moment moment) = x.done
 
 -- What a reply reports is the best at its depth among the roots, on the line as it is.
-abbrev pub TellsBest : GameLine → Option Search → Event → Reply → Type 0
-TellsBest l None event (Info depth m value) = ⊥
-TellsBest l (Some x) event (Info depth m value) = (depth ≡ x.depth) × (best x.claims depth l x.roots ≡ Some (m, value))
-TellsBest l None event (BestMove m) = m ≡ None
-TellsBest l (Some x) event (BestMove m) = m ≡ chosen (best_done l x (finished x event)) x.roots
-TellsBest l x event _ = ⊤
+abbrev pub ReportsBest : GameLine → Option Search → Event → Reply → Type 0
+ReportsBest l None event (Info depth m value) = ⊥
+ReportsBest l (Some x) event (Info depth m value) = (depth ≡ x.depth) × (best x.claims depth l x.roots ≡ Some (m, value))
+ReportsBest l None event (BestMove m) = m ≡ None
+ReportsBest l (Some x) event (BestMove m) = m ≡ chosen (best_done l x (finished x event)) x.roots
+ReportsBest l x event _ = ⊤
 
 -- Each `info` and each best move is the best among the roots at the depth that it names, or the last completed, whatever events came before.
-abbrev pub TellsTheBest : Type 0
-TellsTheBest =
+abbrev pub ReportsTheBest : Type 0
+ReportsTheBest =
     (events : List Event) (event : Event) →
     let s = after_events beginning events in
-    Each (TellsBest s.line s.search event) (step s event).0
+    Each (ReportsBest s.line s.search event) (step s event).0
 
 -- the same search goes on, on the same line
 abbrev pub KeepsSearching : GameLine → Search → GameLine → Option Search → Type 0

@@ -7,7 +7,7 @@
 --   roots_of     the moves that a search is about
 --   begun        a search as it begins
 --   chosen       the move that is reported when it ends
---   slice        one root more is searched, at depths 1, 2, .. up to the last, and at each from the first root to the last
+--   slice        one root more is searched, at depths 1, 2, .. up to the last, and at each from the first root to the last; `slice_row` is the table
 --   is_reached   the clock has come to the end of the search
 --   step         the replies to an event, and the state afterwards
 --   is_infinite, is_waiting, depth_done, so_far, time_left   what is shown of a search
@@ -122,9 +122,9 @@ chosen None roots = first_root roots
 abbrev pub Turn : Type 0
 Turn = List Reply × Option Search
 
--- the replies and the search of a turn, in the state
-abbrev pub turned : Turn → State → Step
-turned t s = (t.0, record s { search = t.1 })
+-- the replies of a turn, and the state with its search
+abbrev pub after_turn : Turn → State → Step
+after_turn t s = (t.0, record s { search = t.1 })
 
 -- the search ends with its `bestmove`
 abbrev pub ended_with : Option (MoveParts × ℤ) → List MoveParts → Turn
@@ -170,7 +170,7 @@ busy_command x s NewGame = (Busy ∷ [], s)
 busy_command x s (Position words) = (Busy ∷ [], s)
 busy_command x s Unplaced = (Busy ∷ [], s)
 busy_command x s (Go words) = (Busy ∷ [], s)
-busy_command x s Stop = turned (ended_with x.completed x.roots) s
+busy_command x s Stop = after_turn (ended_with x.completed x.roots) s
 busy_command x s Quit = quit s
 busy_command x s (SetOption words) = (Busy ∷ [], s)
 
@@ -184,30 +184,32 @@ abbrev pub info : ℕ → Option (MoveParts × ℤ) → List Reply
 info depth None = []
 info depth (Some best) = Info depth best.0 best.1 ∷ []
 
--- the last root of a depth was searched: is it the last depth, and is the search infinite?
-abbrev pub complete : Bool → Bool → Search → Option (MoveParts × ℤ) → Turn
-complete false infinite x best = (info x.depth best, Some (record x { depth = x.depth + 1; searched = 0; done = x.depth; completed = best }))
-complete true true x best = (info x.depth best, Some (record x { done = x.depth; completed = best }))
-complete true false x best = (info x.depth best ++ BestMove (chosen best x.roots) ∷ [], None)
+-- the best of the roots at the depth that is searched, and its value
+abbrev pub depth_best : GameLine → Search → Option (MoveParts × ℤ)
+depth_best line x = best x.claims x.depth line x.roots
 
--- one root more was searched: was it the depth's last?
-abbrev pub sliced : GameLine → Bool → Search → Turn
-sliced line false x = ([], Some x)
-sliced line true x = complete (x.depth == x.last) x.infinite x (best x.claims x.depth line x.roots)
+-- What a slice does (UCI `info`, `bestmove`), by whether a root is left at the depth, whether it is the last of them, whether the depth is the
+-- last, and whether the search is infinite.
+abbrev pub slice_row : (left last_root last_depth infinite : Bool) → GameLine → Search → Turn
+-- no root is left: the search waits for `stop`
+slice_row false _ _ _ line x = ([], Some x)
+-- a root is searched, and others are left
+slice_row true false _ _ line x = ([], Some (record x { searched = x.searched + 1 }))
+-- a depth is complete and reported, and the next one begins
+slice_row true true false _ line x = (info x.depth (depth_best line x), Some (record x { depth = x.depth + 1; searched = 0; done = x.depth; completed = depth_best line x }))
+-- the last depth is complete and reported, and an infinite search waits
+slice_row true true true true line x = (info x.depth (depth_best line x), Some (record x { searched = x.searched + 1; done = x.depth; completed = depth_best line x }))
+-- any other search ends with it
+slice_row true true true false line x = (info x.depth (depth_best line x) ++ BestMove (chosen (depth_best line x) x.roots) ∷ [], None)
 
--- is a root left? Else the search waits
-abbrev pub slice_if : GameLine → Bool → Search → Turn
-slice_if line false x = ([], Some x)
-slice_if line true x = sliced line (x.searched + 1 == length x.roots) (record x { searched = x.searched + 1 })
-
--- one more root is searched, if one is left
+-- a slice of a search on its line
 abbrev pub slice : GameLine → Search → Turn
-slice line x = slice_if line (nat_lt x.searched (length x.roots)) x
+slice line x = slice_row (nat_lt x.searched (length x.roots)) (x.searched + 1 == length x.roots) (x.depth == x.last) x.infinite line x
 
 -- a slice of the search, if one runs
 abbrev pub slice_step : Option Search → State → Step
 slice_step None s = ([], s)
-slice_step (Some x) s = turned (slice s.line x) s
+slice_step (Some x) s = after_turn (slice s.line x) s
 
 -- a moment that is not before the end, if there is one
 abbrev pub is_reached : Option ℕ → ℕ → Bool
@@ -222,7 +224,7 @@ end_if true x = ended_with x.completed x.roots
 -- at the state's moment, which is the greatest seen
 abbrev pub moment_step : Option Search → State → Step
 moment_step None s = ([], s)
-moment_step (Some x) s = turned (end_if (is_reached x.end s.moment) x) s
+moment_step (Some x) s = after_turn (end_if (is_reached x.end s.moment) x) s
 
 -- what an event does to a session that has not ended
 abbrev pub live_step : State → Event → Step

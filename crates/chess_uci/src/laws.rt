@@ -1,4 +1,4 @@
-ghost use Rattle.chess_uci.specs.Laws.{AnswersEachGo, AnswersAtTheEnd, IsReadyAlone, SilentAfterQuit, TellsTheBest, SearchStays};
+ghost use Rattle.chess_uci.specs.Laws.{AnswersEachGo, AnswersAtTheEnd, IsReadyAlone, SilentAfterQuit, ReportsTheBest, SearchStays};
 
 /// What holds of every list of events, from a session's beginning: its clauses are laws of the machine that `Session::event` is, and it
 /// does nothing. There are as many best moves as `go` lines before `quit` that are not refused as busy, less one where a search
@@ -11,6 +11,6 @@ pub fn session_laws()
     ensures at_the_end { AnswersAtTheEnd }
     ensures ready { IsReadyAlone }
     ensures silent { SilentAfterQuit }
-    ensures best { TellsTheBest }
+    ensures best { ReportsTheBest }
     ensures stays { SearchStays }
 {}

@@ -2,9 +2,9 @@ ghost use Rattle.std.specs.Prelude.{◌≡◌, ◌≤◌, ◌<◌, ◌∷◌, �
 ghost use Rattle.chess_types.specs.board.Lines.{Line as GameLine};
 ghost use Rattle.chess_search.specs.Slices.{GoesWith};
 ghost use Rattle.chess_draws.specs.LineParts.{IsAsBefore};
-ghost use Rattle.chess_uci.specs.Machine.{slice, is_reached, ended_with, info, chosen, first_root, complete};
+ghost use Rattle.chess_uci.specs.Machine.{slice, is_reached, ended_with, info, chosen, first_root};
 ghost use Rattle.chess_uci.specs.Within.{IsWatched, search_size};
-ghost use Rattle.chess_uci.specs.steps.Searches.{GoesOn, search_of, turn_of};
+ghost use Rattle.chess_uci.specs.steps.Searches.{GoesOn, completed, search_of, turn_of};
 
 use crate::reply::Reply;
 use arrayvec::ArrayVec;
@@ -152,7 +152,7 @@ impl Search {
         requires depth { self.old.slices.depth ≤ self.old.last }
         requires last { self.old.last ≤ 16 }
         requires all { self.old.slices.searched ≡ length self.old.slices.roots }
-        ensures turn { turn_of result self.new ≡ complete (self.old.slices.depth == self.old.last) self.old.infinite (search_of self.old) best }
+        ensures turn { turn_of result self.new ≡ completed (self.old.slices.depth == self.old.last) self.old.infinite (search_of self.old) best }
         ensures going { (line : GameLine) → GoesWith line self.old.slices → 0 < length self.old.slices.roots → result.over ≡ false → GoesOn line self.new }
         ensures begun { self.new.begin ≡ self.old.begin }
     {

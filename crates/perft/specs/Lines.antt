@@ -3,9 +3,10 @@
 --   line_text   what is written for a line
 --   Answers     a line is answered by that text, whatever came before it
 --   CountEnds   the answers to the lines that were read are written, in order, and nothing else; a call that fails is the last
-use Rattle.std.specs.Prelude.{◌≡◌, ℕ, nat_le, if◌then◌else◌, Bool, List, [], ◌∷◌, ◌++◌, length, Option, Some, None, codes}
-use Rattle.chess_loop.specs.Runs.{AnyRest, Runs}
-use Rattle.chess_loop.specs.RunEnds.{EndsGood, EndsReadFault, EndsWriteFault, most_reads, never}
+use Rattle.std.specs.Prelude.{◌≡◌, ℕ, nat_le, if◌then◌else◌, List, [], ◌∷◌, ◌++◌, length, Option, Some, None, codes}
+use Rattle.byte_streams.specs.declared.source.Source.{Ghosts as Source}
+use Rattle.byte_streams.specs.declared.sink.Sink.{Ghosts as Sink}
+use Rattle.chess_loop.specs.RunEnds.{EndsGood, EndsReadFault, EndsWriteFault, in_texts, most_reads}
 use Rattle.chess_loop.specs.declared.driver.RunEnd.{RunEnd}
 use Rattle.chess_loop.specs.declared.driver.RunEnd.TheVariants.{Good, ReadFault, WriteFault, Memory}
 use Rattle.perft.specs.declared.counter.Counter.{Counter}
@@ -29,10 +30,10 @@ line_text (Some line) = ended_by_feed (answer line)
 abbrev pub Answers : {S : Type 0} → S → List ℕ → List ℕ → S → Type 0
 Answers old line text new = (text ≡ line_text (kept line)) × (new ≡ old)
 
-module _ {R W : Type 0} (gives : R → List ℕ → R → Type 0) (read_failed : R → Bool) (takes : W → List ℕ → W → Type 0) (write_failed : W → Bool) (ended : R → Type 0) where
+module _ {R W : Type 0} (source : Source R) (sink : Sink W) where
   -- by whether the whole input was read, a read failed, a write did, or there was no memory to begin with
   pub record CountEnds (result : RunEnd) (r r' : R) (w w' : W) : Type 0 where
-    pub good : result ≡ Good → (first last : Counter) × EndsGood (Runs Answers) never first gives read_failed takes write_failed ended last r r' w w'
-    pub read_fault : result ≡ ReadFault → (first last : Counter) × EndsReadFault (Runs Answers) never first gives read_failed takes write_failed most_reads last r r' w w'
-    pub write_fault : result ≡ WriteFault → (first last : Counter) × EndsWriteFault (Runs Answers) never first gives read_failed takes write_failed (AnyRest (Runs Answers)) ended last r r' w w'
+    pub good : result ≡ Good → (first last : Counter) × EndsGood (in_texts Answers first) source sink last r r' w w'
+    pub read_fault : result ≡ ReadFault → (first last : Counter) × EndsReadFault (in_texts Answers first) source sink most_reads last r r' w w'
+    pub write_fault : result ≡ WriteFault → (first last : Counter) × EndsWriteFault (in_texts Answers first) source sink last r r' w w'
     pub memory : result ≡ Memory → (r' ≡ r) × (w' ≡ w)

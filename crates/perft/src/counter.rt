@@ -87,7 +87,7 @@ pub fn count_leaves<A: Allocator, R: Source, W: Sink>(
 ) -> RunEnd
     requires reader { R.failed reader.old ≡ false }
     requires writer { W.failed writer.old ≡ false }
-    ensures { CountEnds R.gives R.failed W.takes W.failed R.ended result reader.old reader.new writer.old writer.new }
+    ensures { CountEnds R.Source W.Sink result reader.old reader.new writer.old writer.new }
 {
     let mut counter = Counter;
     run(alloc, &mut counter, reader, writer, READS)

@@ -16,8 +16,8 @@ mod leaves;
 mod words;
 
 use byte_streams::{FromRead, ToWrite};
+use chess_command_line::{FAILED, Refused, read_words};
 use chess_loop::RunEnd;
-use chess_programs::{FAILED, Refused, read_words};
 use counter::count_leaves;
 use std::process::ExitCode;
 use words::parse_words;

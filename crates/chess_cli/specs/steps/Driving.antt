@@ -1,5 +1,5 @@
 -- A line on its way through a session.
---   Happened   an event has happened, and its replies stand on the page
+--   Happened   an event has happened, and its replies are on the page
 use Rattle.std.specs.Prelude.{◌≡◌, ℕ, List, ◌++◌}
 use Rattle.chess_uci.specs.declared.reply.Reply.{Reply}
 use Rattle.chess_uci.specs.declared.event.Event.{Event}
@@ -9,4 +9,4 @@ use Rattle.chess_cli.specs.TimedSessions.{reply_lines}
 
 -- an event has been replied on the page
 abbrev pub Happened : State → Event → State → List ℕ → List ℕ → Type 0
-Happened s event t page page1 = (told : List Reply) × Follows s event told t × (page1 ≡ page ++ reply_lines told)
+Happened s event t page page1 = (replies : List Reply) × Follows s event replies t × (page1 ≡ page ++ reply_lines replies)

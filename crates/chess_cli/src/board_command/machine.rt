@@ -18,7 +18,7 @@ ghost use Rattle.chess_tree.specs.declared.fault.TreeFault.TheVariants.{Memory a
 ghost use Rattle.chess_cli.specs.Loads.{from_root};
 ghost use Rattle.chess_cli.specs.Outcomes.{claims_text};
 ghost use Rattle.chess_cli.specs.Numbers.{depth_in, path_in};
-ghost use Rattle.chess_cli.specs.Answers.{Answers, Does, HasEffect, Tells, MayAnswer, beginning, checks_of, claim_effect, comment_effect, counts_of, has_words, if_it_exists, list_text, move_effect, names_new, not_at_root, play_effect, set_effect, reply, takes_memory, tree_from};
+ghost use Rattle.chess_cli.specs.Answers.{Answers, AnswersRequest, Does, HasEffect, beginning, checks_of, claim_effect, comment_effect, counts_of, has_words, if_it_exists, list_text, move_effect, names_new, not_at_root, play_effect, set_effect, reply, takes_memory, tree_from};
 ghost use Rattle.chess_cli.specs.steps.Replies.{IsGameText, IsOnPage, best_effect, path_effect};
 ghost use Rattle.chess_cli.specs.Requests.{Pgn, Play, request};
 ghost use Rattle.chess_loop.specs.steps.Sending.{Sends};
@@ -248,7 +248,7 @@ impl<'k, A: Allocator> Board<'k, A> {
     /// Answers a line that was read whole, after what is on the page; of the answers to `path` and `pgn` there is nothing yet.
     pub fn put_answer<B: Allocator>(&mut self, line: &[u8], page: &mut OutputBuffer<B>) -> Pending
         requires { length page.old + 2600 ≤ 65536 }
-        ensures reply { MayAnswer (IsOnPage result self.new page.old page.new) self.old (request line.now) self.new }
+        ensures reply { (text : List ℕ) × AnswersRequest self.old (request line.now) text self.new × IsOnPage result self.new page.old page.new text }
         ensures game { result ≡ Pending.Game → request line.now ≡ Pgn }
         ensures path_looks { result ≡ Pending.Path → self.new ≡ self.old }
         ensures game_looks { result ≡ Pending.Game → self.new ≡ self.old }
@@ -293,7 +293,7 @@ impl<'k, A: Allocator> Board<'k, A> {
         writer: &mut W,
     ) -> Result<(), Failed>
         requires { length page.old + 2600 ≤ 65536 }
-        ensures told { (text : List ℕ) × Tells self.old (request line.now) text self.new × Sends W.takes W.failed page.old writer.old text page.new writer.new result }
+        ensures answers { (text : List ℕ) × AnswersRequest self.old (request line.now) text self.new × Sends W.takes W.failed page.old writer.old text page.new writer.new result }
         ensures as_before { OnErr result (self.new ≡ self.old) }
     {
         match self.put_answer(line, page) {

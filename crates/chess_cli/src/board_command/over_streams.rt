@@ -21,7 +21,7 @@ pub const READS: u64 = 1 << 40;
 pub fn board<A: Allocator, R: Source, W: Sink>(alloc: A, reader: &mut R, writer: &mut W) -> Ended
     requires reader { R.failed reader.old ≡ false }
     requires writer { W.failed writer.old ≡ false }
-    ensures { BoardEnds R.gives R.failed W.takes W.failed R.ended most_reads result reader.old reader.new writer.old writer.new }
+    ensures { BoardEnds R.Source W.Sink most_reads result reader.old reader.new writer.old writer.new }
 {
     board_with(alloc, reader, writer, &KeyTable::fixed())
 }
@@ -35,7 +35,7 @@ pub fn board_with<A: Allocator, R: Source, W: Sink>(
 ) -> Ended
     requires reader { R.failed reader.old ≡ false }
     requires writer { W.failed writer.old ≡ false }
-    ensures { BoardEnds R.gives R.failed W.takes W.failed R.ended most_reads result reader.old reader.new writer.old writer.new }
+    ensures { BoardEnds R.Source W.Sink most_reads result reader.old reader.new writer.old writer.new }
 {
     board_within(alloc, reader, writer, table, READS)
 }
@@ -50,7 +50,7 @@ pub fn board_within<A: Allocator, R: Source, W: Sink>(
 ) -> Ended
     requires reader { R.failed reader.old ≡ false }
     requires writer { W.failed writer.old ≡ false }
-    ensures { BoardEnds R.gives R.failed W.takes W.failed R.ended reads result reader.old reader.new writer.old writer.new }
+    ensures { BoardEnds R.Source W.Sink reads result reader.old reader.new writer.old writer.new }
 {
     let Ok(mut board) = Board::new(&alloc, table) else {
         return Ended::Memory;

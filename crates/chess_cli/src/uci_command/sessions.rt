@@ -31,7 +31,7 @@ pub fn uci<A: Allocator, R: Source, W: Sink, C: Clock + Drop>(
 ) -> Ended
     requires reader { R.failed reader.old ≡ false }
     requires writer { W.failed writer.old ≡ false }
-    ensures { (last : timed.TimedSession A C) × TimedSessionEnds R.gives R.failed W.takes W.failed R.ended C.reads (beginning_with clock) last result reader.old reader.new writer.old writer.new }
+    ensures { (last : timed.TimedSession A C) × TimedSessionEnds R.Source W.Sink C.reads (beginning_with clock) last result reader.old reader.new writer.old writer.new }
 {
     let table = KeyTable::fixed();
     let mut session = TimedSession::new(&alloc, &table, clock);
@@ -49,7 +49,7 @@ pub fn uci_with<A: Allocator, R: Source, W: Sink, C: Clock>(
     requires begins { session.old.session.ended ≡ false }
     requires reader { R.failed reader.old ≡ false }
     requires writer { W.failed writer.old ≡ false }
-    ensures { TimedSessionEnds R.gives R.failed W.takes W.failed R.ended C.reads session.old session.new result reader.old reader.new writer.old writer.new }
+    ensures { TimedSessionEnds R.Source W.Sink C.reads session.old session.new result reader.old reader.new writer.old writer.new }
 {
     Ended::from(run(alloc, session, reader, writer, READS))
 }

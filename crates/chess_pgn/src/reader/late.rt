@@ -17,9 +17,9 @@ ghost use Rattle.chess_pgn.specs.steps.Unmoved.{parts_so_far, unmoved};
 
 use crate::plain::{before as text_before, marked};
 use crate::texts::{Known, Texts};
-use chess_key::KeyTable;
+use chess_attack::Nothing;
 use chess_san::SanFault;
-use chess_tree::{Analysis, PlayFault, Tree, TreeFault};
+use chess_tree::{AnalysisWith, PlainAnalysis, PlayFault, Tree, TreeFault};
 use chess_types::{Move, Position};
 use std::alloc::{AllocError, Allocator};
 use std::marker::Model;
@@ -28,18 +28,17 @@ use std::mem;
 /// An analysis that begins where the first move is read or the first comment is noted: a game without either costs its first position
 /// alone. Contracts see the tree and the path to the cursor.
 #[derive(Drop)]
-pub struct Late<'a, 'k, A: Allocator> {
+pub struct Late<'a, A: Allocator> {
     alloc: &'a A,
-    table: &'k KeyTable,
     /// Where the game begins.
     start: Position,
-    begun: Option<Box<Analysis<'a, 'k, A>, &'a A>>,
+    begun: Option<Box<PlainAnalysis<'a, A>, &'a A>>,
     /// The texts of the moves so far, and which of them is the cursor's; `None` where that isn't known.
     texts: Texts<'a, A>,
     at: Option<usize>,
 }
 
-impl<'a, 'k, A: Allocator> Model for Late<'a, 'k, A> {
+impl<'a, A: Allocator> Model for Late<'a, A> {
     ghost use Rattle.std.specs.Prelude.{◌≤◌};
     ghost use Rattle.chess_tree.specs.GameTree.{TreeParts};
     ghost use Rattle.chess_tree.specs.steps.TreeCode.{coded_tree};
@@ -57,11 +56,10 @@ impl<'a, 'k, A: Allocator> Model for Late<'a, 'k, A> {
 }
 
 // An analysis without a move. Apart from `begun`, whose frame is then small.
-fn begin<'a, 'k, A: Allocator>(
+fn begin<'a, A: Allocator>(
     alloc: &'a A,
-    table: &'k KeyTable,
     start: &Position,
-) -> Result<Box<Analysis<'a, 'k, A>, &'a A>, AllocError>
+) -> Result<Box<PlainAnalysis<'a, A>, &'a A>, AllocError>
     requires clock { start.now.clock ≤ 99999 }
     requires number { start.now.number ≤ 99999 }
     ensures { IfOk result (λ analysis. analysis.value ≡ unmoved start.now) }
@@ -69,7 +67,7 @@ fn begin<'a, 'k, A: Allocator>(
     let Ok(start) = start.clone() else {
         unreachable!();
     };
-    let Ok(analysis) = Analysis::new(alloc, start, table) else {
+    let Ok(analysis) = AnalysisWith::with(alloc, start, Nothing) else {
         return Err(AllocError);
     };
     match Box::new(alloc, analysis) {
@@ -79,12 +77,11 @@ fn begin<'a, 'k, A: Allocator>(
 }
 
 // The analysis; one begins here unless it has before.
-fn begun<'a, 'k, A: Allocator>(
+fn begun<'a, A: Allocator>(
     alloc: &'a A,
-    table: &'k KeyTable,
     start: &Position,
-    held: Option<Box<Analysis<'a, 'k, A>, &'a A>>,
-) -> Result<Box<Analysis<'a, 'k, A>, &'a A>, AllocError>
+    held: Option<Box<PlainAnalysis<'a, A>, &'a A>>,
+) -> Result<Box<PlainAnalysis<'a, A>, &'a A>, AllocError>
     requires clock { start.now.clock ≤ 99999 }
     requires number { start.now.number ≤ 99999 }
     ensures ok { IfOk result (λ analysis. analysis.value ≡ parts_so_far start.now held.entry) }
@@ -93,12 +90,12 @@ fn begun<'a, 'k, A: Allocator>(
     if let Some(analysis) = held {
         return Ok(analysis);
     }
-    begin(alloc, table, start)
+    begin(alloc, start)
 }
 
 // Sets the comment at the cursor.
-fn set_comment<'a, 'k, A: Allocator>(
-    analysis: &mut Analysis<'a, 'k, A>,
+fn set_comment<'a, A: Allocator>(
+    analysis: &mut PlainAnalysis<'a, A>,
     text: &[u8],
 ) -> Result<(), AllocError>
     ensures ok { OnOk result (analysis.new ≡ commented_here (normalised text.now) analysis.old) }
@@ -111,9 +108,9 @@ fn set_comment<'a, 'k, A: Allocator>(
 }
 
 // Adds a comment after the one at the cursor.
-fn say<'a, 'k, A: Allocator>(
+fn say<'a, A: Allocator>(
     alloc: &'a A,
-    analysis: &mut Analysis<'a, 'k, A>,
+    analysis: &mut PlainAnalysis<'a, A>,
     text: &[u8],
 ) -> Result<(), AllocError>
     ensures said { OnOk result (analysis.new ≡ said_here (normalised text.now) analysis.old) }
@@ -131,8 +128,8 @@ fn say<'a, 'k, A: Allocator>(
 }
 
 // Adds the legal move that a text names, and its text after that of the one at `before`. Returns the analysis's answer, and which text it is.
-fn add_known<'a, 'k, A: Allocator>(
-    analysis: &mut Analysis<'a, 'k, A>,
+fn add_known<'a, A: Allocator>(
+    analysis: &mut PlainAnalysis<'a, A>,
     texts: &mut Texts<'a, A>,
     before: usize,
     m: Move,
@@ -166,8 +163,8 @@ fn add_known<'a, 'k, A: Allocator>(
 
 // Steps to the child at that place, whose text is that known one, if it is after the one at `before`. Returns the analysis's answer, and
 // which text it is.
-fn step_known<'a, 'k, A: Allocator>(
-    analysis: &mut Analysis<'a, 'k, A>,
+fn step_known<'a, A: Allocator>(
+    analysis: &mut PlainAnalysis<'a, A>,
     texts: &Texts<'a, A>,
     before: Option<usize>,
     place: u32,
@@ -194,9 +191,9 @@ fn step_known<'a, 'k, A: Allocator>(
     (Ok(()), Some(known))
 }
 
-impl<'a, 'k, A: Allocator> Late<'a, 'k, A> {
+impl<'a, A: Allocator> Late<'a, A> {
     /// No move, from that position. Takes no memory.
-    pub fn new(alloc: &'a A, start: Position, table: &'k KeyTable, wanted: bool) -> Late<'a, 'k, A>
+    pub fn new(alloc: &'a A, start: Position, wanted: bool) -> Late<'a, A>
         requires clock { start.clock ≤ 99999 }
         requires number { start.number ≤ 99999 }
         requires usual { start ≡ position.start }
@@ -204,7 +201,6 @@ impl<'a, 'k, A: Allocator> Late<'a, 'k, A> {
     {
         Late {
             alloc,
-            table,
             start,
             begun: None,
             texts: Texts::new(alloc),
@@ -229,7 +225,7 @@ impl<'a, 'k, A: Allocator> Late<'a, 'k, A> {
         ensures legal { IfOk result (λ found. IfOk found (λ m. is_legal (last (line_to self.old)) m ≡ true)) }
         ensures as_before { self.new ≡ self.old }
     {
-        let mut analysis = begun(self.alloc, self.table, &self.start, self.begun.take())?;
+        let mut analysis = begun(self.alloc, &self.start, self.begun.take())?;
         let found = analysis.read_move(text);
         self.begun = Some(analysis);
         Ok(found)
@@ -243,7 +239,7 @@ impl<'a, 'k, A: Allocator> Late<'a, 'k, A> {
         ensures ok { OnOk result (self.new ≡ added m self.old) }
         ensures line { OnOk result (line_to self.new ≡ extended (line_to self.old) m) }
     {
-        let Ok(mut analysis) = begun(self.alloc, self.table, &self.start, self.begun.take()) else {
+        let Ok(mut analysis) = begun(self.alloc, &self.start, self.begun.take()) else {
             return Err(PlayFault::Memory);
         };
         let (added, at) = match self.at {
@@ -276,7 +272,7 @@ impl<'a, 'k, A: Allocator> Late<'a, 'k, A> {
         if text.is_empty() {
             return Ok(());
         }
-        let mut analysis = begun(self.alloc, self.table, &self.start, self.begun.take())?;
+        let mut analysis = begun(self.alloc, &self.start, self.begun.take())?;
         let said = say(self.alloc, &mut analysis, text);
         self.begun = Some(analysis);
         said
@@ -356,7 +352,6 @@ impl<'a, 'k, A: Allocator> Late<'a, 'k, A> {
     {
         let Late {
             alloc,
-            table: _,
             start,
             begun,
             texts: _,

@@ -15,7 +15,6 @@ ghost use Rattle.chess_pgn.specs.steps.Readings.{IsRead, IsLed, IsRoomFault, Sta
 use crate::reader::late::Late;
 use crate::texts::Texts;
 use chess_items::{FaultKind, PgnFault, at_place};
-use chess_key::KeyTable;
 use chess_tree::{PlayFault, Tree};
 use chess_types::{Move, Position};
 use std::alloc::{AllocError, Allocator};
@@ -36,8 +35,8 @@ struct Interrupted {
 
 /// Reads movetext (PGN 8.2). The cursor is at the last move of the line that is being read; before its first move, where it begins.
 #[derive(Drop)]
-pub struct Moves<'a, 'k, A: Allocator> {
-    analysis: Late<'a, 'k, A>,
+pub struct Moves<'a, A: Allocator> {
+    analysis: Late<'a, A>,
     /// The lines around the one that is being read, the innermost last.
     interrupted: Vec<Interrupted, &'a A>,
     /// Whether that line has a move.
@@ -57,18 +56,18 @@ fn push_line<'a, A: Allocator>(text: &mut Vec<u8, &'a A>, line: &[u8]) -> Result
     Ok(())
 }
 
-impl<'a, 'k, A: Allocator> Moves<'a, 'k, A> {
+impl<'a, A: Allocator> Moves<'a, A> {
     ghost use Rattle.chess_pgn.specs.steps.Readings.{RefusesElements, StepsOn};
 
     /// No movetext, from that position. Takes no memory.
-    pub fn new(alloc: &'a A, start: Position, table: &'k KeyTable, wanted: bool) -> Moves<'a, 'k, A>
+    pub fn new(alloc: &'a A, start: Position, wanted: bool) -> Moves<'a, A>
         requires clock { start.clock ≤ 99999 }
         requires number { start.number ≤ 99999 }
         requires usual { start ≡ position.start }
         ensures { Stands result (fresh start []) }
     {
         Moves {
-            analysis: Late::new(alloc, start, table, wanted),
+            analysis: Late::new(alloc, start, wanted),
             interrupted: Vec::new(alloc),
             played: false,
             comments: Vec::new(alloc),

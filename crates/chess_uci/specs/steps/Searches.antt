@@ -1,14 +1,17 @@
 -- The code's searches and turns as those of the machine.
 --   search_of, seen     a search that runs, or none
 --   turn_of             what a turn replies and leaves
+--   completed           the turn in which a depth is complete
 --   GoesOn, IsGoing     the search is one of the line, and where it has no root left it is infinite
 --   HasStarted          it has begun at the moment or before
-use Rattle.std.specs.Prelude.{◌≡◌, ⊤, ℕ, ◌+◌, ◌≤◌, Bool, true, false, length, Option, Some, None, option_map}
+use Rattle.std.specs.Prelude.{◌≡◌, ⊤, ℕ, ◌+◌, ◌≤◌, Bool, true, false, [], ◌∷◌, ◌++◌, length, Option, Some, None, option_map, ℤ}
+use Rattle.chess_types.specs.board.MoveParts.{MoveParts}
 use Rattle.chess_types.specs.board.Lines.{Line as GameLine}
 use Rattle.chess_search.specs.Slices.{GoesWith}
 use Rattle.chess_uci.specs.declared.search.Search.{Search as Code}
 use Rattle.chess_uci.specs.declared.search.Turn.{Turn as TurnCode}
-use Rattle.chess_uci.specs.Machine.{Search, Turn}
+use Rattle.chess_uci.specs.declared.reply.Reply.TheVariants.{BestMove}
+use Rattle.chess_uci.specs.Machine.{Search, Turn, chosen, info}
 
 -- the search that the code passes
 abbrev pub search_of : Code → Search
@@ -35,6 +38,13 @@ unless_over false x = Some (search_of x)
 -- the turn that the code passes
 abbrev pub turn_of : TurnCode → Code → Turn
 turn_of t x = (t.replies.items, unless_over t.over x)
+
+-- The last root of a depth was searched, of which this is the best: the table's last rows, by whether it is the last depth and whether the search
+-- is infinite.
+abbrev pub completed : Bool → Bool → Search → Option (MoveParts × ℤ) → Turn
+completed false infinite x best = (info x.depth best, Some (record x { depth = x.depth + 1; searched = 0; done = x.depth; completed = best }))
+completed true true x best = (info x.depth best, Some (record x { done = x.depth; completed = best }))
+completed true false x best = (info x.depth best ++ BestMove (chosen best x.roots) ∷ [], None)
 
 -- what holds of a search between slices
 pub record GoesOn (line : GameLine) (x : Code) : Type 0 where

@@ -7,5 +7,5 @@ abbrev pub invariant-loop-game : goal.invariant-loop-game
 invariant-loop-game g l = record {
   sound : IsSound g.R.Source.ended l.games;
   none : l.games.fault ≡ None;
-  written : SoFar g.R.Source.gives g.R.Source.failed g.R.Source.ended g.W.Sink.takes g.W.Sink.failed l._game l.fn.games.text l.games.text l.fn.writer l.writer;
+  written : SoFar g.R.Source g.W.Sink l._game l.fn.games.text l.games.text l.fn.writer l.writer;
 }

@@ -5,7 +5,7 @@ use Rattle.chess_loop.proofs.driver.answer_all.Goals as goal
 
 pub returns-in-Err-finish : goal.returns-in-Err-finish
 returns-in-Err-finish g c = unwritten_end (
-    ends_unfinished g.E.LineHandler.step g.E.LineHandler.cut g.E.LineHandler.over c.args.engine.now g.R.Source.gives g.R.Source.failed g.W.Sink.takes g.W.Sink.failed g.R.Source.ended c.loop-turn._turn
+    ends_unfinished g.E.LineHandler.step g.E.LineHandler.cut g.E.LineHandler.over c.args.engine.now g.R.Source g.W.Sink c.loop-turn._turn
     c.loop-turn.engine c.finish.new.engine c.loop-turn.line
     c.args.reader.now c.loop-turn.reader c.read.new.self c.args.writer.now c.loop-turn.writer c.finish.new.writer c.in-Err-finish.field-0
     (record { underway = c.loop-turn.invariant.underway; call = rw c.in-Ok-eq0.field-0-test at c.in-Ok-eq0.ensures.gives; reading = c.in-Ok-eq0.ensures.failed; awake = c.loop-turn.invariant.awake })
@@ -13,7 +13,7 @@ returns-in-Err-finish g c = unwritten_end (
 
 pub returns-in-Ok-eq0 : goal.returns-in-Ok-eq0
 returns-in-Ok-eq0 g c = good_end (inl (
-    ends_good g.E.LineHandler.step g.E.LineHandler.cut g.E.LineHandler.over c.args.engine.now g.R.Source.gives g.R.Source.failed g.W.Sink.takes g.W.Sink.failed g.R.Source.ended c.loop-turn._turn
+    ends_good g.E.LineHandler.step g.E.LineHandler.cut g.E.LineHandler.over c.args.engine.now g.R.Source g.W.Sink c.loop-turn._turn
     c.loop-turn.engine c.finish.new.engine c.loop-turn.line
     c.args.reader.now c.loop-turn.reader c.read.new.self c.args.writer.now c.loop-turn.writer c.finish.new.writer
     (record { underway = c.loop-turn.invariant.underway; call = rw c.in-Ok-eq0.field-0-test at c.in-Ok-eq0.ensures.gives; reading = c.in-Ok-eq0.ensures.failed; awake = c.loop-turn.invariant.awake })
@@ -21,7 +21,7 @@ returns-in-Ok-eq0 g c = good_end (inl (
 
 pub returns-in-Err-feed : goal.returns-in-Err-feed
 returns-in-Err-feed g c = unwritten_end (
-    ends_unwritten g.E.LineHandler.step g.E.LineHandler.cut g.E.LineHandler.over c.args.engine.now g.R.Source.gives g.R.Source.failed g.W.Sink.takes g.W.Sink.failed g.R.Source.ended c.loop-turn._turn
+    ends_unwritten g.E.LineHandler.step g.E.LineHandler.cut g.E.LineHandler.over c.args.engine.now g.R.Source g.W.Sink c.loop-turn._turn
     c.loop-turn.engine c.feed.new.engine c.loop-turn.line c.feed.new.line
     c.args.reader.now c.loop-turn.reader c.read.new.self c.args.writer.now c.loop-turn.writer c.feed.new.writer
     (take c.in-Ok.count c.read.new.buf) [] c.in-Err-feed.field-0
@@ -29,7 +29,7 @@ returns-in-Err-feed g c = unwritten_end (
 
 pub returns-then-is_over : goal.returns-then-is_over
 returns-then-is_over g c = good_end (inr (
-    ends_over g.E.LineHandler.step g.E.LineHandler.cut g.E.LineHandler.over c.args.engine.now g.R.Source.gives g.R.Source.failed g.W.Sink.takes g.W.Sink.failed c.loop-turn._turn
+    ends_over g.E.LineHandler.step g.E.LineHandler.cut g.E.LineHandler.over c.args.engine.now g.R.Source g.W.Sink c.loop-turn._turn
     c.loop-turn.engine c.feed.new.engine c.loop-turn.line c.feed.new.line
     c.args.reader.now c.loop-turn.reader c.read.new.self c.args.writer.now c.loop-turn.writer c.feed.new.writer
     (take c.in-Ok.count c.read.new.buf)
@@ -37,7 +37,7 @@ returns-then-is_over g c = good_end (inr (
 
 pub loop-turn-preserved : goal.loop-turn-preserved
 loop-turn-preserved g c = record {
-  underway = underway_on g.E.LineHandler.step g.E.LineHandler.cut g.E.LineHandler.over c.args.engine.now g.R.Source.gives g.R.Source.failed g.W.Sink.takes g.W.Sink.failed c.loop-turn._turn
+  underway = underway_on g.E.LineHandler.step g.E.LineHandler.cut g.E.LineHandler.over c.args.engine.now g.R.Source g.W.Sink c.loop-turn._turn
       c.loop-turn.engine c.feed.new.engine c.loop-turn.line c.feed.new.line
       c.args.reader.now c.loop-turn.reader c.read.new.self c.args.writer.now c.loop-turn.writer c.feed.new.writer
       (take c.in-Ok.count c.read.new.buf) []

@@ -4,7 +4,7 @@ use Rattle.chess_loop.proofs.driver.answer_all.Given as goal
 
 abbrev pub invariant-loop-turn : goal.invariant-loop-turn
 invariant-loop-turn g l = record {
-  underway : Underway g.E.LineHandler.step l.fn.engine g.R.Source.gives g.R.Source.failed g.W.Sink.takes g.W.Sink.failed l._turn l.engine l.line l.fn.reader l.reader l.fn.writer l.writer;
+  underway : Underway g.E.LineHandler.step l.fn.engine g.R.Source g.W.Sink l._turn l.engine l.line l.fn.reader l.reader l.fn.writer l.writer;
   awake : g.E.LineHandler.over l.engine ≡ false;
   empty : l.page ≡ [];
 }

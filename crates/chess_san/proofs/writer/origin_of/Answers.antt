@@ -11,7 +11,7 @@ use Rattle.chess_san.proofs.writer.origin_of.Goals as goal
 
 pub returns-clause-value : goal.returns-clause-value
 unfolding origin_among rivals
-returns-clause-value c =
+returns-clause-value g c =
     let xs : List ℕ = filter (contains c.rivals-others.result) squares in
     let all : from_each c.args.to None xs ≡ rivals c.args.live.now.position c.args.kind c.args.from c.args.to =
     begun c.args.live.now.position (is_rival c.args.live.now.position c.args.kind c.args.from c.args.to) c.args.to None c.rivals-others.result (omega arith) c.rivals-others.ensures.rivals (λ n h legal.

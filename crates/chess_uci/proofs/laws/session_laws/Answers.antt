@@ -1,5 +1,5 @@
 use Rattle.chess_uci.proofs.RunLemmas.{answers_each_go, answers_at_the_end, ready_alone, silent_after_quit}
-use Rattle.chess_uci.proofs.KeptLemmas.{tells_the_best}
+use Rattle.chess_uci.proofs.KeptLemmas.{reports_the_best}
 use Rattle.chess_uci.proofs.StaysLemmas.{search_stays}
 use Rattle.chess_uci.proofs.laws.session_laws.Goals as goal
 
@@ -10,6 +10,6 @@ returns c =
       at_the_end = answers_at_the_end;
       ready = ready_alone;
       silent = silent_after_quit;
-      best = tells_the_best;
+      best = reports_the_best;
       stays = search_stays;
     }

@@ -10,17 +10,17 @@ returns g c =
     record {
       good = λ is. (
         c.run.new.engine,
-        rw c.in-Ok.ensures at (never_over Answers c.in-Ok.board g.R.Source.gives g.R.Source.failed g.W.Sink.takes g.W.Sink.failed g.R.Source.ended c.run.new.engine
+        rw c.in-Ok.ensures at (never_over Answers c.in-Ok.board g.R.Source g.W.Sink c.run.new.engine
             c.args.reader.now c.run.new.reader c.args.writer.now c.run.new.writer (c.run.ensures.good (same_end c.run.result Good (sym c.from.ensures ∙ is)))),
       );
       read_fault = λ is. (
         c.run.new.engine,
-        rw c.in-Ok.ensures at (unread_ends Answers c.in-Ok.board g.R.Source.gives g.R.Source.failed g.W.Sink.takes g.W.Sink.failed c.args.reads c.run.new.engine
+        rw c.in-Ok.ensures at (unread_ends Answers c.in-Ok.board g.R.Source g.W.Sink c.args.reads c.run.new.engine
             c.args.reader.now c.run.new.reader c.args.writer.now c.run.new.writer (c.run.ensures.read_fault (same_end c.run.result ReadFault (sym c.from.ensures ∙ is)))),
       );
       write_fault = λ is. (
         c.run.new.engine,
-        rw c.in-Ok.ensures at (whole_ends Answers c.in-Ok.board g.R.Source.gives g.R.Source.failed g.W.Sink.takes g.W.Sink.failed g.R.Source.ended c.run.new.engine
+        rw c.in-Ok.ensures at (whole_ends Answers c.in-Ok.board g.R.Source g.W.Sink c.run.new.engine
             c.args.reader.now c.run.new.reader c.args.writer.now c.run.new.writer (c.run.ensures.write_fault (same_end c.run.result WriteFault (sym c.from.ensures ∙ is)))),
       );
       memory = λ is. (let kept = c.run.ensures.memory (same_end c.run.result Memory (sym c.from.ensures ∙ is)) in (kept.1, kept.2));
