@@ -3,7 +3,8 @@
 #     make install                        into /usr/local
 #     make install PREFIX=/usr DESTDIR=d  into the folder d, as a package would have it
 #     make uninstall                      with the same words: removes what was installed, and the folders that were made for it
-#     make packages                       the Debian package, the tarball, the wheel and the package for npm, into out/; for arm64 into out/aarch64-linux/
+#     make packages                       the Debian package, the tarball, the wheel, the package for npm and the crate for Rust, into out/; the first three
+#                                         for arm64 into out/aarch64-linux/
 
 PREFIX = /usr/local
 DESTDIR =

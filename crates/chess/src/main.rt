@@ -7,8 +7,8 @@ mod words;
 
 use byte_streams::{FromRead, ToWrite};
 use chess_cli::{Ended, TimedSession, board, pgn, uci_with};
+use chess_command_line::{Refused, read_words};
 use chess_key::KeyTable;
-use chess_programs::{Refused, read_words};
 use clock::MachineClock;
 use std::process::ExitCode;
 use words::{Asked, parse_words};

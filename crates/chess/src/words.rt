@@ -1,4 +1,4 @@
-use chess_programs::{Refused, VERSION, why_refused};
+use chess_command_line::{Refused, VERSION, why_refused};
 use clap::{Arg, Command, Error};
 use std::alloc::Global;
 use std::convert::AsStr;

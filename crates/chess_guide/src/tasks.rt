@@ -7,10 +7,10 @@ use chess_draws::Line;
 use chess_edit::{join, set_tag};
 use chess_fen::read;
 use chess_key::KeyTable;
-use chess_lines::{move_texts, outcome_by};
 use chess_moves::moves;
 use chess_pgn::{Game, read_game, write_game};
 use chess_play::Live;
+use chess_queries::{move_texts, outcome_by};
 use chess_report::Report;
 use chess_search::score_text;
 use chess_tree::Analysis;
@@ -142,7 +142,7 @@ pub fn joined(rt: &HostRuntime, text: &str, other: &str) -> io::Result<()> {
 
 /// A game with tags set by their rules, and its outcome by the Laws; a game that ends in mate.
 pub fn tags(rt: &HostRuntime, text: &str) -> io::Result<()> {
-    let (alloc, table) = (rt.alloc(), KeyTable::fixed());
+    let alloc = rt.alloc();
     let Ok(Some((mut game, _))) = read_game(&alloc, text.as_bytes()) else {
         return println!(rt; "no game");
     };
@@ -151,7 +151,7 @@ pub fn tags(rt: &HostRuntime, text: &str) -> io::Result<()> {
             println!(rt; "{name}: {fault}")?;
         }
     }
-    let report = Report::of(rt.alloc(), &game, &table)?;
+    let report = Report::of(rt.alloc(), &game)?;
     game.result = outcome_by(report.status, report.winner);
     match write_game(&alloc, &game) {
         Ok(text) => print!(rt; "{}", String::from_utf8_lossy(rt.alloc(), text.as_slice())?),
