@@ -1,13 +1,16 @@
 // Plays the moves that are named, and says how the game stands: node examples/board.mjs e4 e5 Bc4 Nc6 Qh5 Nf6 Qxf7
-import { readFile } from 'node:fs/promises';
-import { open } from '../web/module.js';
+import { Chess, ChessError } from '../web/jatshegi/src/node.js';
 
-const session = await open(new Uint8Array(await readFile(new URL('../web/jatshegi.wasm', import.meta.url))));
+const chess = new Chess();
 for (const text of process.argv.slice(2)) {
-  const answer = session.line(`play ${text}`);
-  // A refusal is a number and a name, and nothing has changed.
-  if (answer !== 'ok\n') console.log(`${text}: ${answer.trim()}`);
+  try {
+    chess.move(text);
+  } catch (error) {
+    // A refusal has a name, and nothing has changed.
+    if (!(error instanceof ChessError)) throw error;
+    console.log(`${text}: ${error.code}`);
+  }
 }
-console.log(session.line('fen').trim());
-console.log(session.line('moves').trim());
-console.log(session.line('status').trim());
+console.log(chess.fen());
+console.log(chess.moves().join(' ') || 'none');
+console.log(chess.status());

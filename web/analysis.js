@@ -1,5 +1,5 @@
 // The engine on the page: what it says, how it is stopped, and its replies in a game against it.
-import { MODULE, ask } from './ask.js';
+import { ask, module } from './ask.js';
 import { game, lines } from './game.js';
 
 const by = (id) => document.getElementById(id);
@@ -63,12 +63,13 @@ const begun = () => {
   const it = { worker, ready: false };
   worker.onmessage = ({ data }) => {
     if ('opened' in data) {
-      it.ready = data.opened === 0;
+      it.ready = data.opened;
       if (!it.ready && it === engine.worker) thinking('There is no memory for the engine');
       go();
     } else if (it === engine.worker) heard(data.reply);
   };
-  worker.postMessage({ module: MODULE });
+  // (the board has begun with it before)
+  module.then((compiled) => worker.postMessage({ module: compiled }));
   return it;
 };
 
@@ -171,8 +172,8 @@ export const reply = () => {
 
 /** What the engine is to do with the position that is there; it replies where a person moved, or chose its side. */
 export const positionChanged = (isMoved = true) => {
-  const { fen, status } = game.state;
-  const isOver = status === 'mate' || status === 'stalemate';
+  const { fen, moves } = game.state;
+  const isOver = moves.length === 0;
   const plays = by('plays').value;
   document.body.classList.toggle('analysing', analyses() || plays !== '');
   if (engine.fen !== fen) clear();
@@ -192,8 +193,8 @@ export const positionChanged = (isMoved = true) => {
 
 // What the evaluation is where the game is over, and else the board's own.
 const drawEvaluation = () => {
-  const { fen, status, eval: value } = game.state;
-  if (status === 'play') drawBar(Number(value), brief(Number(value)));
+  const { fen, status, value } = game.state;
+  if (status === 'play') drawBar(value, brief(value));
   else if (status === 'mate') drawBar(fen.split(' ')[1] === 'b' ? 2000 : -2000, fen.split(' ')[1] === 'b' ? '1\u20130' : '0\u20131');
   else drawBar(0, '\u00bd');
 };

@@ -1,6 +1,7 @@
 // What the page shows of the game: the status with its articles, the moves, the comment, and the names.
 import { game, page, retag, tag } from './game.js';
-import { nodesOn, parts, pathOf, rows, shown, typed } from './pgn.js';
+import { shown } from './jatshegi/src/bytes.js';
+import { nodesOn, pathOf, rows, typed } from './pgn.js';
 import { CLAIMS, CLAIMS_WITH, MARKS, RESULTS, ROSTER, STATUS } from './words.js';
 
 const by = (id) => document.getElementById(id);
@@ -14,12 +15,12 @@ const element = (name, text = '', className = '') => {
 
 // ---- The status.
 
-const inWords = (claims, words) => (claims === 'none' ? 'none' : claims.split(' ').map((it) => words[it]).join('; '));
+const inWords = (claims, words) => claims.map((it) => words[it]).join('; ');
 
 const statusText = () => {
   const { state } = game;
   const side = state.fen.split(' ')[1] === 'w' ? 'White' : 'Black';
-  const check = state.checks === 'none' ? '' : `, in check from ${state.checks.replaceAll(' ', ' and ')} (Article 3.9.1)`;
+  const check = state.checks.length ? `, in check from ${state.checks.join(' and ')} (Article 3.9.1)` : '';
   return state.status === 'play' ? `${side} to move${check}` : STATUS[state.status];
 };
 
@@ -27,9 +28,9 @@ export const drawStatus = () => {
   const { state } = game;
   by('status').textContent = statusText();
   const facts = [
-    ...(state.claims === 'none' ? [] : [['May be claimed', inWords(state.claims, CLAIMS)]]),
+    ...(state.claims.length ? [['May be claimed', inWords(state.claims, CLAIMS)]] : []),
     ...state.with.map(([m, claims]) => [`With ${m}`, inWords(claims, CLAIMS_WITH)]),
-    ...(state.count === '1' ? [] : [['Position came up', `${state.count} times (Article 9.2.2)`]]),
+    ...(state.count === 1 ? [] : [['Position came up', `${state.count} times (Article 9.2.2)`]]),
   ];
   by('laws').replaceChildren(...facts.flatMap(([name, value]) => [element('dt', name), element('dd', value)]));
 };
@@ -59,7 +60,7 @@ let listed = { pgn: null, rows: [] };
 
 const rowsNow = () => {
   const { pgn } = game.state;
-  if (listed.pgn !== pgn) listed = { pgn, rows: pgn.startsWith('refused') ? [] : rows(parts(pgn).movetext) };
+  if (listed.pgn !== pgn) listed = { pgn, rows: pgn.startsWith('refused') ? [] : rows(pgn) };
   return listed.rows;
 };
 

@@ -3,8 +3,7 @@ import { ask } from './ask.js';
 import { areMostPositions, position } from './epd.js';
 import { begin, doing, exported, game, inTurn, isSettled, page, taken } from './game.js';
 import { another, isAsLoaded, isFresh, noteLoaded } from './mine.js';
-import { fromBytes, toBytes } from './module.js';
-import { shown } from './pgn.js';
+import { fromBytes, shown, toBytes } from './jatshegi/src/bytes.js';
 import { hasStore, newFileId, readFile, writeFile } from './store.js';
 import { faultWords, refusal } from './words.js';
 
@@ -22,7 +21,7 @@ const isKnown = (value) => /[^?.*\s]/.test(value);
 // A game by its players, or where it names none by its opening.
 const label = (it) => {
   if (it.fault !== undefined) return `${it.number}. Can\u2019t be read: ${faultWords(it.fault, it.where)}`;
-  const tag = (name) => shown(it.tags.find(([is]) => is === name)?.[1] ?? '');
+  const tag = (name) => it.tags.find(([is]) => is === name)?.[1] ?? '';
   const known = (...names) => names.map(tag).filter(isKnown).join(' ');
   const players = known('White', 'Black') ? `${tag('White') || '?'} \u2013 ${tag('Black') || '?'}` : known('ECO', 'Opening', 'Variation');
   return `${it.number}. ${[players || '? \u2013 ?', known('Result', 'Event', 'Date')].filter(Boolean).join(' ')}${it.finding ? ` \u2014 ${it.finding}` : ''}`;
@@ -36,7 +35,7 @@ const positionLabel = ({ number, fen, said, refused, text }) => {
 };
 const calledOf = (said) => shown(said.find(([name]) => name === 'id')?.[1] ?? '');
 
-const has = (it, words) => it.label.toLowerCase().includes(words) || (it.tags ?? []).some(([, value]) => shown(value).toLowerCase().includes(words));
+const has = (it, words) => it.label.toLowerCase().includes(words) || (it.tags ?? []).some(([, value]) => value.toLowerCase().includes(words));
 
 const originOf = (it) => (collection.file ? { file: collection.file.id, number: it.number } : null);
 
@@ -135,7 +134,7 @@ export const read = async (bytes, { before = game.acts, file = null } = {}) => {
   const add = (found) => {
     if (collection !== mine) return;
     listed(mine, found, label);
-    const first = found.find((it) => it.fault === undefined);
+    const first = found.find((it) => it.used !== undefined);
     if (first) mine.first ??= take(first).then((is) => { mine.isLoaded = is; });
     show();
   };

@@ -1,8 +1,8 @@
 // The game on the board: what the board says of it, the comment that is being typed, and the states before.
 import { ask } from './ask.js';
 import { History } from './history.js';
-import { toBytes } from './module.js';
-import { shown, typed } from './pgn.js';
+import { shown, toBytes } from './jatshegi/src/bytes.js';
+import { typed } from './pgn.js';
 import { faultText, refusal } from './words.js';
 
 /**
@@ -165,9 +165,9 @@ export const lines = (...all) => doing(() => answered(all));
 /** Plays the move that a text as people type it means. Where it means none or several, that is said and nothing has changed. */
 export const playTyped = (text) => doing(async () => {
   if (!await isSettled()) return false;
-  const { move, among, text: named } = await ask('meant', { text });
-  if (!among) return answered([`play ${move ?? typed(named)}`]);
-  page.told(`That may be ${among.join(' or ')}: say which.`);
+  const { move, among, why } = await ask('meant', { text });
+  if (move) return answered([`play ${move}`]);
+  page.told(among ? `That may be ${among.join(' or ')}: say which.` : refusal(why));
   return false;
 });
 

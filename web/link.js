@@ -1,7 +1,7 @@
 // A link that holds the game: its export form, deflated, after the sign #. And an address that names a position, by ?fen= or #fen=.
 import { ask } from './ask.js';
 import { begin, exported, game, inTurn, isSettled, page, taken } from './game.js';
-import { fromBytes, toBytes } from './module.js';
+import { fromBytes, toBytes } from './jatshegi/src/bytes.js';
 import { another, isFresh, isPosition, keepLinkOf } from './mine.js';
 import { typed } from './pgn.js';
 import { refusal } from './words.js';

@@ -1,5 +1,5 @@
 // The page: carries what a person does to the module as lines, and draws what it answers.
-import { MODULE, ask, startWorker } from './ask.js';
+import { ask, module } from './ask.js';
 import { moveNow, points, positionChanged, positionDrawn, reply, toggleAnalysis } from './analysis.js';
 import { Board, man, named } from './board.js';
 import { dialogs, openDialog } from './dialogs.js';
@@ -9,10 +9,10 @@ import { choose, download, listAgain, read, readWhole, saveBack, showCollection 
 import { begin, exported, game, isSettled, lines, page, playTyped, redo, settled, stepped, doing, undo, unmark } from './game.js';
 import { keepOffline } from './kept.js';
 import { faultOf, isEmbedded, keepLink, linkNow, linked, openLink } from './link.js';
-import { beside, keep, mine, start } from './mine.js';
-import { toBytes } from './module.js';
+import { shown, toBytes } from './jatshegi/src/bytes.js';
+import { beside, keep, openKept, start } from './mine.js';
 import { drawOwn, ownCommands } from './own.js';
-import { shown, typed } from './pgn.js';
+import { typed } from './pgn.js';
 import { isStill, settings } from './settings.js';
 
 const by = (id) => document.getElementById(id);
@@ -21,17 +21,15 @@ let view;
 
 // ---- Drawing.
 
-const attacks = (text) => text.replaceAll('/', ' ').trim().split(/\s+/).map(Number);
-
 const drawBoard = () => {
   const { state } = game;
   const heat = by('heat').value;
   view.show({
     fen: state.fen,
-    moves: state.moves === 'none' ? [] : state.moves.split(' '),
+    moves: state.moves,
     castlings: state.castlings,
-    heat: heat ? { counts: attacks(state[heat]), colour: heat.at(-1) } : null,
-    checks: state.checks === 'none' ? [] : state.checks.split(' '),
+    heat: heat ? { counts: state.counts['wb'.indexOf(heat.at(-1))], colour: heat.at(-1) } : null,
+    checks: state.checks,
     last: state.last,
     still: isStill(),
   });
@@ -280,14 +278,14 @@ const framed = async () => {
 };
 
 const main = async () => {
-  startWorker();
+  if (!isEmbedded()) openKept();
   view = new Board(by('board'), { wants: move, asks: askPromotion });
   points.at = (m) => view.point(m);
   document.documentElement.classList.toggle('framed', isEmbedded());
   for (const give of [settings, dialogs, steps, annotations, games, engine, ...(isEmbedded() ? [] : [drops, ownCommands])]) give();
   editing(() => view.turned);
   addEventListener('keydown', keys);
-  const first = await ask('start', { module: MODULE });
+  const first = await ask('start', { module: await module });
   if (first.status !== 0) {
     lacks('There is not enough memory for the board.');
     return;

@@ -2,8 +2,6 @@
 import { ask } from './ask.js';
 import { game, beginAlone, doing, inTurn, isSettled, page, shownAgain, tag } from './game.js';
 import { History } from './history.js';
-import { toBytes } from './module.js';
-import { olderText } from './pgn.js';
 import { allGames, changeGame, dropFiles, dropGame, hasStore, openStore, readGame, writeGame } from './store.js';
 
 /** `here` is the game on the board; `records` are those that are kept; `trouble` is why nothing is kept, `failed` why the last change isn’t. */
@@ -151,12 +149,11 @@ export const beside = (isEmpty = true) => put({ ...fresh(), isEmpty });
 /** Whether the game on the board is a position that was opened, with which nothing has been done. */
 export const isPosition = () => isFresh() && mine.here.isPosition === true;
 
-// A state as it is kept now: of one that an earlier page kept, with its tags and its result beside it, the module writes the whole text.
+// A state as it is kept now: of one that an earlier page kept, with its tags and its result beside it, the module writes the whole text. Where it can't, it stays.
 const asNow = async ({ game: _, number, tags, result, ...state }) => {
   if (!tags) return state;
-  const text = olderText({ ...state, tags, result });
-  const found = await ask('export', { bytes: toBytes(text) });
-  return { ...state, pgn: found.status === 0 ? found.text : text };
+  const { status, text } = await ask('older', { tags, result, pgn: state.pgn });
+  return status === 0 ? { ...state, pgn: text } : { ...state, tags, result };
 };
 
 const opened = async (id) => {
@@ -229,17 +226,30 @@ export const drop = (id) => doing(async () => {
   show();
 });
 
+let records = null;
+
+/** The records that are kept, from the store, which is opened while the board begins. */
+export const openKept = () => {
+  records ??= (async () => {
+    await openStore();
+    const all = await allGames();
+    await dropFiles(new Set(all.flatMap((it) => it.files ?? [])));
+    return all;
+  })();
+  // (`start` says what is wrong with it)
+  records.catch(() => {});
+  return records;
+};
+
 /**
- * Opens the store and puts on the board the game that `wanted` names among those that are kept, or the one that this window had, or in a new window the last one that
+ * Puts on the board the game that `wanted` names among those that are kept, or the one that this window had, or in a new window the last one that
  * was changed, or none. A `wanted` that answers null wants none.
  */
 export const start = async (showing, wanted) => {
   show = showing;
   const own = remembered();
   try {
-    await openStore();
-    mine.records = await allGames();
-    await dropFiles(new Set(mine.records.flatMap((it) => it.files ?? [])));
+    mine.records = await openKept();
   } catch (error) {
     mine.trouble = `Nothing is kept in this browser: ${error.message}`;
   }

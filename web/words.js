@@ -26,7 +26,7 @@ export const REFUSED = {
   BadComment: 'A comment can\u2019t have a closing brace: change it, or give it up by Escape.', Memory: 'There is no memory left.', Argument: 'That number is out of range.', LongLine: 'That is too long.',
   Fields: 'A FEN has four or six fields.', Placement: 'The FEN\u2019s men are wrong.', Kings: 'Each side has exactly one king.', PawnRank: 'A pawn can\u2019t stand on the first or last rank.',
   TooManyMen: 'A side has at most 16 men.', Side: 'The FEN\u2019s side to move is w or b.', Castling: 'The FEN\u2019s castling rights are wrong.', Target: 'The FEN\u2019s en passant square is wrong.',
-  Counter: 'The FEN\u2019s counters are wrong.', InCheck: 'The side that isn\u2019t to move is in check.', TooLongToShow: 'The game is too long for this page.',
+  Counter: 'The FEN\u2019s counters are wrong.', InCheck: 'The side that isn\u2019t to move is in check.',
 };
 
 export const FAULTS = [
@@ -41,7 +41,7 @@ export const refusal = (answer) => {
 };
 
 // Statuses of calls that aren't faults of a text.
-const STATUSES = { 2: 'There is no memory for it.', 9: 'There is no such result.', 10: REFUSED.TooLongToShow, 18: 'No tag has that name.', 19: 'The game itself says that.', 20: 'It has more than one line.' };
+const STATUSES = { 2: 'There is no memory for it.', 9: 'There is no such result.', 18: 'No tag has that name.', 19: 'The game itself says that.', 20: 'It has more than one line.' };
 
 /** A fault of a text by its number, with where it is: line, column, the move that was to come there, and the text there. */
 export const faultWords = (fault, where) => {

@@ -1,212 +1,287 @@
-// Keeps the board in a worker: answers lines, and reads the games of a text.
+// Keeps the board in a worker, over the package (jatshegi/src): answers lines, and reads the games of a text.
 import { position } from './epd.js';
-import { FILES, placed } from './fen.js';
-import { fromBytes, open, toBytes, OK, NONE } from './module.js';
-import { nodesOn, parts, pathOf, rows, shown, typed } from './pgn.js';
+import { begin, beside, costOf, keep, line, on, placeIn, start, theMemory } from './jatshegi/src/boards.js';
+import { decode, fromBytes, toBytes } from './jatshegi/src/bytes.js';
+import { treeOf } from './jatshegi/src/export.js';
+import { entries, listed, read, salvaged } from './jatshegi/src/games.js';
+import { FAULTS, MEMORY, NONE, OK, OWN_TAG } from './jatshegi/src/memory.js';
+import { typed } from './pgn.js';
 import { spellings, squares } from './spellings.js';
-import { SHOWN } from './words.js';
+import { RESULTS, SHOWN } from './words.js';
 
-let session;
+// The one board begins with 16 MiB, which a game of 160 KB has enough of.
+const board = keep(globalThis, 2);
 
-const line = (text) => session.line(text);
-
-// The rows of a text that a board wrote; the root alone where it wrote none.
-const rowsOf = (pgn) => rows(pgn.startsWith('refused') ? '' : parts(pgn).movetext);
-
-// ---- The game's text, which is asked for only where it may be another.
-
-// The text that the board wrote last, with a number of its own, and the root of its tree once it is wanted. `isOld` is whether the game may have changed since.
-let written = { pgn: '', number: 0, root: null, isOld: true };
-const changed = () => { written.isOld = true; };
-
-const writtenNow = () => {
-  if (written.isOld) {
-    const pgn = session.pgn();
-    written = pgn === written.pgn ? { ...written, isOld: false } : { pgn, number: written.number + 1, root: null, isOld: false };
+// What an action answers, or what is said where there is no memory for it: then nothing has happened.
+const orMemory = (action, said) => {
+  try {
+    return action();
+  } catch (error) {
+    if (error.code !== 'Memory') throw error;
+    return said;
   }
-  return written;
 };
-
-const rootNow = () => {
-  const it = writtenNow();
-  it.root ??= rowsOf(it.pgn)[0];
-  return it.root;
-};
+const NO_MEMORY = 'refused 5 Memory';
 
 // The lines that go to another node and leave the tree as it is, answered or refused.
 const STEPS = /^[ \t]*(back|step|start|end|goto)([ \t]|$)/;
 
-const moved = (text) => {
-  if (line(text) !== 'ok\n') throw new Error(`the board does not go ${text}`);
-};
+// The board's answer to a line; both are byte strings.
+const answer = (text) => orMemory(() => line(board, toBytes(text), STEPS.test(text) ? 0 : costOf(text)), NO_MEMORY);
 
-// The move that led to the cursor, in long algebraic notation; empty at the root. A node keeps its own once it is known.
-const lastMove = (path) => {
-  const it = nodesOn(rootNow(), path).at(-1);
-  if (path === '-' || !it) return '';
-  if (it.move === undefined) {
-    moved('back');
-    it.move = session.read(it.san);
-    moved(`step ${it.index}`);
+// ---- The game's text, which is asked for only where it may be another.
+
+// The text that the board wrote last, with a number of its own, and the FEN of its root once it is wanted. `isOld` is whether the game may have changed since.
+let written = { pgn: null, number: 0, start: '', isOld: true };
+const changed = () => { written.isOld = true; };
+
+const writtenNow = () => {
+  if (written.isOld) {
+    const pgn = orMemory(() => on(board, (session) => session.pgn()), NO_MEMORY);
+    written = pgn === written.pgn ? { ...written, isOld: false } : { pgn, number: written.number + 1, start: '', isOld: false };
   }
-  return it.move;
+  return written;
 };
 
-// The castlings that the module names, `{king, rook, move}`: the rook is the next man on the side that the king goes to.
-const castlings = (fen) => ['O-O', 'O-O-O'].map((it) => session.read(it)).filter(Boolean).map((move) => {
-  const men = placed(fen);
-  const by = move[2] > move[0] ? 1 : -1;
-  let file = FILES.indexOf(move[0]) + by;
-  while (FILES[file] && !men[FILES[file] + move[1]]) file += by;
-  return { king: move.slice(0, 2), rook: FILES[file] + move[1], move };
-});
+// ---- How the board stands.
 
-// All that the page draws of the position at the cursor. `told` is what the board answers; the game's text is left out where it is the one with that number.
+const MOST_WITH = 5;
+
+// What may be claimed with a move that is then made, `[the move's text, claims]`.
+const withMoves = (session, moves) => {
+  const found = [];
+  for (const lan of moves) {
+    const claims = session.claims(lan);
+    if (claims.length > 0 && found.push([session.san(lan), claims]) === MOST_WITH) break;
+  }
+  return found;
+};
+
+const castlings = (session) => session.castlings().map(({ lan, rook }) => ({ king: lan.slice(0, 2), rook, move: lan }));
+
+// All that the page draws of the position at the cursor, each by the module's call for it. Where the cursor is, only a line says.
+const standing = (session) => {
+  const moves = session.moves();
+  return {
+    path: session.line('path'),
+    fen: session.fen(),
+    moves,
+    status: session.status(),
+    claims: session.claims(),
+    checks: session.checks(),
+    count: session.repetitions(),
+    value: session.evaluation(),
+    counts: session.counts(),
+    tags: Object.fromEntries(SHOWN.map((name) => [name, session.tag(name) ?? ''])),
+    result: session.result(),
+    last: session.last() ?? '',
+    castlings: castlings(session),
+    with: withMoves(session, moves),
+  };
+};
+
+// The same with the game's text, which is left out where it is the one with the number that the page `has`.
 const state = (has) => {
-  const told = {};
-  for (const asked of ['path', 'fen', 'moves', 'status', 'claims', 'checks', 'count', 'eval', 'counts w', 'counts b']) told[asked] = line(asked).replace(/\n$/, '');
+  const told = on(board, standing);
   const { pgn, number } = writtenNow();
-  told.number = number;
-  if (number !== has) told.pgn = pgn;
-  told.tags = Object.fromEntries(SHOWN.map((name) => [name, session.tag(name)]));
-  told.result = session.result();
-  told.last = lastMove(told.path);
-  told.castlings = castlings(told.fen);
-  // What may be claimed with a move that is then made.
-  told.with = told.moves === 'none' ? [] : told.moves.split(' ').map((m) => [m, line(`claim ${m}`).trim()]).filter(([, claims]) => claims !== 'none').slice(0, 5);
-  const named = words(told.fen, told.with.map(([m]) => m));
-  told.with = told.with.map(([, claims], i) => [named[i], claims]);
-  return told;
+  return number === has ? { ...told, number } : { ...told, number, pgn };
 };
 
-// The game at the beginning of a text, in export form.
-const readOne = (bytes) => {
-  session.hold(bytes);
-  return session.game(0);
+// ---- Reading.
+
+// The game at the start of a text, in export form: `{status, used, text}`.
+const first = (bytes) => {
+  const { status, used } = orMemory(() => {
+    const [at, length] = theMemory().put(bytes).map(Number);
+    return read((session) => session.game(at, length));
+  }, { status: MEMORY, used: 0 });
+  return { status, used, text: status === OK ? fromBytes(theMemory().handed()) : '' };
 };
 
-const isSpace = (byte) => byte === 32 || (byte >= 9 && byte <= 13);
-
-// Where a game begins after the whitespace and the lines with a % that stand before it, if the module reads the same game from there.
-const begins = (bytes, at, { text, used }) => {
-  let from = at;
-  for (;;) {
-    if (isSpace(bytes[from])) from++;
-    else if (bytes[from] === 37 && (from === 0 || bytes[from - 1] === 10)) while (from < at + used && bytes[from] !== 10) from++;
-    else break;
+// Where a game begins after what stands before it: that is as much as the module finds no game in, if it reads the same game from there.
+const begins = (bytes, { place, length, bytes: text }) => {
+  const at = Number(theMemory().put(bytes.subarray(place, place + length))[0]);
+  const isWhite = (many) => read((session) => session.game(at, many)).status === NONE;
+  let white = 0;
+  for (let dark = length; dark - white > 1;) {
+    const middle = (white + dark) >> 1;
+    if (isWhite(middle)) white = middle;
+    else dark = middle;
   }
-  const game = session.game(from);
-  return game.status === OK && game.text === text && from + game.used === at + used ? from : at;
+  const game = first(bytes.subarray(place + white));
+  return game.status === OK && game.text === fromBytes(text) && white + game.used === length ? place + white : place;
 };
 
 // ---- Where a game can't be read.
 
 const MOST_QUOTED = 24;
 const MARK = 'THE PLACE OF THE FAULT';
+// What the module repairs where a text before a fault ends: what is open there gets its end.
+const OPEN = ['Comment', 'Unclosed'];
 
-const feeds = (bytes, from, to) => {
-  let count = 0;
-  for (let i = from; i < to; i++) if (bytes[i] === 10) count++;
-  return count;
+// Where the module hangs a comment that stands at the end of a text: the `node`, in the `game` that it saves of the text, and whether something `isOpen` there.
+// Null where more than that is to be repaired.
+const hung = (text) => {
+  let mark = MARK;
+  while (text.includes(mark)) mark += '.';
+  const saved = salvaged(toBytes(`${text}\n{${mark}}`));
+  if (!saved?.repairs.every(({ name }) => OPEN.includes(name))) return null;
+  const root = treeOf(fromBytes(saved.bytes));
+  const node = [root, ...root].find((it) => it.comment.endsWith(mark));
+  return node ? { node, game: saved.bytes, isOpen: saved.repairs.length > 0 } : null;
 };
 
-// How many variations are open at the end of a text.
-const openAt = (text) => {
-  let open = 0;
-  for (const [it] of text.matchAll(/\{[^}]*\}?|;[^\n]*|\[[^\]"]*"(?:\\.|[^"\\])*"\s*\]|[()]/g)) {
-    if (it === '(') open++;
-    else if (it === ')') open--;
+// The node below which the module would hang a move at the end of a text: that of a comment there, the last move; or where a variation has just been opened the one
+// before it: then the last move's text is read as a move there, beside it.
+const awaits = (text) => {
+  const last = hung(text);
+  if (!last?.isOpen || last.node.isRoot) return last;
+  const isLast = (it) => it?.node.path === last.node.path;
+  let next = hung(`${text}\n${last.node.san}`);
+  // (in a comment that is open it is none)
+  if (isLast(next)) next = hung(`${text}\n}${last.node.san}`);
+  return next && !isLast(next) ? { ...next, node: next.node.parent } : last;
+};
+
+// The FEN at a path of a game, by a board for it.
+const fenIn = (game, path) => read((session) => {
+  const { status } = session.load(game);
+  if (status !== OK) return { status, fen: null };
+  try {
+    return { status, fen: path === '-' || session.line(`goto ${path}`) === 'ok' ? session.fen() : null };
+  } finally {
+    session.begin();
   }
-  return Math.max(0, open);
-};
+}).fen;
 
-const OPENED = /\((\s|\d+\.*|\{[^}]*\}|;[^\n]*\n)*$/;
-
-// Which move is to come at that place of a game, as `[number, side]`: a comment is set there, the game ended, and a board beside goes to where the module has it.
+// Which move is to come at that place of a game, as `[number, side]`; null where the module doesn't say.
 const moveAt = (bytes, at, place) => {
-  const before = fromBytes(bytes.subarray(at, place));
-  beside.hold(toBytes(`${before} {${MARK}} ${')'.repeat(openAt(before))} *`));
-  if (beside.load(0).status !== OK) return null;
-  const found = rowsOf(beside.pgn()).find((it) => it.comment?.includes(MARK));
-  if (!found) return null;
-  // (where a variation has just been opened, its first move comes in the place of the last one)
-  const path = OPENED.test(before) ? pathOf(found).slice(0, -1) : pathOf(found);
-  if (path.length && beside.line(`goto ${path.join('.')}`) !== 'ok\n') return null;
-  const fields = beside.line('fen').trim().split(' ');
-  return [fields[5], fields[1]];
+  const found = awaits(fromBytes(bytes.subarray(at, place)));
+  const fields = found && fenIn(found.game, found.node.path)?.split(' ');
+  return fields ? [fields[5], fields[1]] : null;
 };
 
 // The faults of tags: a malformed one, and a FEN that spells no position.
-const TAG_FAULTS = [42, 47];
+const TAG_FAULTS = [2, 7];
 
-// Where the fault of a game at that place of a text is, or null where it has none: its line and column from 1, the move that was to come there or null, and the text
-// there. The text's line at `at` has the number `first`.
-const faultAt = (bytes, at, { status, used }, first = 1) => {
-  if (status <= 40) return null;
-  const place = at + used;
-  const begin = place === 0 ? 0 : bytes.lastIndexOf(10, place - 1) + 1;
-  const word = /^([^\s(){};]+|\S?)/.exec(shown(fromBytes(bytes.subarray(place, place + 4 * MOST_QUOTED))))[0];
+// Where a fault is, by its number and its place, of a game that begins there in a text: its line and column from 1, the move that was to come there or null, and the
+// text there.
+const faultAt = (bytes, from, fault, { byte, line: row, column }) => {
+  const word = /^([^\s(){};]+|\S?)/.exec(decode(bytes.subarray(byte, byte + 4 * MOST_QUOTED)))[0];
   return {
-    line: first + feeds(bytes, at, place),
-    column: [...shown(fromBytes(bytes.subarray(begin, place)))].length + 1,
-    move: TAG_FAULTS.includes(status) ? null : moveAt(bytes, at, place),
+    line: row,
+    column,
+    move: TAG_FAULTS.includes(fault) ? null : moveAt(bytes, from, byte),
     text: word.length > MOST_QUOTED ? `${word.slice(0, MOST_QUOTED)}\u2026` : word,
   };
 };
 
-const heading = (text) => {
-  const { tags, movetext } = parts(text);
-  return { tags, length: movetext.length };
-};
+// ---- What is found in a text, some at a time.
 
-const ENDS = ['mate', 'stalemate', 'a dead position', 'the fifth repetition', '75 moves without a capture or a pawn\u2019s move'];
-const RESULTS = ['1/2-1/2', '1-0', '0-1'];
+const ENDS = { mate: 'mate', stalemate: 'stalemate', dead: 'a dead position', fivefold: 'the fifth repetition', seventyfive: '75 moves without a capture or a pawn\u2019s move' };
+const WINS = { w: '1-0', b: '0-1' };
 
 // What is wrong with a game by the Laws: moves follow after it was over, or its marker disagrees with the board. Empty where nothing is.
-const finding = (report) => {
-  if (!report) return '';
-  const { plies, winner, over, why, agrees } = report;
-  return [over < plies ? `played on after ${ENDS[why]}` : '', agrees ? '' : `the board says ${RESULTS[winner]}`].filter(Boolean).join(', ');
+const finding = ({ plies, winner, over, why, agrees }) => (
+  [over !== null && over < plies ? `played on after ${ENDS[why]}` : '', agrees ? '' : `the board says ${WINS[winner] ?? '1/2-1/2'}`].filter(Boolean).join(', ')
+);
+
+// A part of what is found goes to the page each 100 milliseconds, and other jobs come between.
+class Parts {
+  constructor(id) {
+    this.id = id;
+    this.found = [];
+    this.last = performance.now();
+  }
+
+  async pause() {
+    if (performance.now() - this.last < 100) return;
+    postMessage({ id: this.id, part: this.found });
+    this.found = [];
+    await new Promise((done) => { setTimeout(done); });
+    this.last = performance.now();
+  }
+}
+
+const entry = (bytes, { game, fault }) => {
+  if (fault) return { number: fault.index + 1, at: fault.from, fault: fault.number, where: faultAt(bytes, fault.from, fault.number, fault.place) };
+  const { index, place, length, tags, report } = game;
+  return { number: index + 1, at: place, used: length, tags, finding: finding(report) };
 };
 
-// The words of moves, as a board beside writes them.
-let beside;
-const words = (fen, moves) => moves.map((m) => {
-  if (beside.line(`set ${fen}`) !== 'ok\n' || beside.line(`play ${m}`) !== 'ok\n') return m;
-  return rowsOf(beside.pgn())[0].children[0]?.san ?? m;
-});
+// The moves of a position as they are written (SAN), by a board beside.
+const words = (fen, moves) => {
+  const other = beside();
+  other.set(fen);
+  return moves.map((lan) => other.san(lan));
+};
 
-// Which refusal of a move's text says most of it.
+// ---- What a text as people type it means.
+
+// The refusals of a move's text, from the one that says least of it on.
 const SAYS = ['Form', 'Illegal', 'Ambiguous'];
+const says = (why) => SAYS.indexOf(why.split(' ')[2]);
 
-// What a text as people type it means: first as it is, then in other spellings, each asked of the module. `{move}` is the one that they name; `{among}` are those, as
-// they are written, where they name several; else `{text}` is the spelling whose refusal says most.
+// First it is read as it is, then in other spellings, each asked of the module. `{move}` is the one that they name; `{among}` are those, as they are written, where
+// they name several; else `{why}` is the refusal of a spelling that says most.
 const meant = (text) => {
-  const own = session.read(typed(text));
+  const asked = (it) => on(board, (session) => ({ move: session.read(toBytes(typed(it))), why: session.why }));
+  const { move: own, why: ownWhy } = asked(text);
   if (own) return { move: own };
-  const why = (it) => SAYS.indexOf(line(`claim ${typed(it)}`).trim().split(' ')[2]);
-  let most = text;
-  if (why(text) === SAYS.length - 1) return { text };
-  const fen = line('fen').trim();
+  let why = ownWhy;
+  const isSaid = () => says(why) === SAYS.length - 1;
+  if (isSaid()) return { why };
   const pair = squares(text);
-  const found = new Set(castlings(fen).filter((it) => it.king === pair?.[0] && it.rook === pair[1]).map((it) => it.move));
+  const found = new Set(on(board, castlings).filter((it) => it.king === pair?.[0] && it.rook === pair[1]).map((it) => it.move));
   for (const it of spellings(text)) {
-    const move = session.read(typed(it));
-    if (move) found.add(move);
-    else if (why(it) > why(most)) most = it;
+    const other = asked(it);
+    if (other.move) found.add(other.move);
+    else if (says(other.why) > says(why)) why = other.why;
   }
-  if (found.size > 1) return { among: words(fen, [...found]) };
-  if (found.size === 0 || why(most) === SAYS.length - 1) return { text: most };
+  if (found.size > 1) return { among: on(board, (session) => [...found].map((lan) => session.san(lan))) };
+  if (found.size === 0 || isSaid()) return { why };
   return { move: [...found][0] };
 };
 
+// The FEN of the root, to which the board goes and back.
+const startFen = () => on(board, (session) => {
+  const path = session.line('path');
+  const go = (text) => {
+    if (session.line(text) !== 'ok') throw new Error(`the board does not go ${text}`);
+  };
+  go('start');
+  const fen = session.fen();
+  if (path !== '-') go(`goto ${path}`);
+  return fen;
+});
+
+// A game's text with other tags and another result, by a board for it: `{status, text}`. What says how the game begins or ended is no tag of it.
+const older = (session, tags, result, pgn) => {
+  let { status } = session.load(toBytes(pgn));
+  try {
+    for (const [name, value] of tags) {
+      if (status !== OK) break;
+      status = session.setTag(toBytes(name), toBytes(value));
+      if (status === OWN_TAG) status = OK;
+    }
+    if (status === OK) status = session.setResult(RESULTS.indexOf(result));
+    return { status, text: status === OK ? session.pgn() : '' };
+  } finally {
+    session.begin();
+  }
+};
+
+// A change of the game's heading or of a move, by its status.
+const change = (action, has, cost = 0) => {
+  changed();
+  const status = orMemory(() => on(board, action, cost), MEMORY);
+  return { status, state: state(has) };
+};
+
 const jobs = {
-  async start({ module }) {
-    const bytes = new Uint8Array(await (await fetch(module)).arrayBuffer());
-    session = await open(bytes);
-    beside = await open(bytes, { heap: 1 << 20, room: 1 << 16 });
-    if (beside.opened !== OK) return { status: beside.opened, state: null };
-    return { status: session.opened, state: session.opened === OK ? state() : null };
+  start({ module }) {
+    start(module);
+    return orMemory(() => ({ status: OK, state: state() }), { status: MEMORY, state: null });
   },
 
   // The answers to lines, one after another up to one that is refused, and how the board then is.
@@ -214,13 +289,13 @@ const jobs = {
     const answers = [];
     for (const text of lines) {
       if (!STEPS.test(text)) changed();
-      answers.push(line(text).replace(/\n$/, ''));
+      answers.push(answer(text));
       if (answers.at(-1).startsWith('refused')) break;
     }
     return { answers, state: state(has) };
   },
 
-  // The move that a typed text means.
+  // The move that a typed text means, or why it means none.
   meant({ text }) {
     return meant(text);
   },
@@ -228,145 +303,100 @@ const jobs = {
   // A game begins by a line, `new` or `set FEN`, with no tags and no result: a board beside has one, and the module puts it on the board, or leaves that as it is.
   begin({ lines: [text], has }) {
     changed();
-    let answer = beside.line(text).trim();
-    if (answer === 'ok') {
-      session.hold(toBytes(beside.pgn()));
-      if (session.load(0).status !== OK) answer = 'refused 5 Memory';
-    }
-    return { answers: [answer], state: state(has) };
+    let said = beside().line(toBytes(text));
+    if (said === 'ok') said = orMemory(() => (begin(board, beside().pgnBytes()).status === OK ? said : NO_MEMORY), NO_MEMORY);
+    return { answers: [said], state: state(has) };
   },
 
   // A tag gets a value, or where that is empty is taken out.
   tag({ name, value, has }) {
-    changed();
-    return { status: value === '' ? session.clearTag(name) : session.setTag(name, value), state: state(has) };
+    const [first, second] = [name, value].map(toBytes);
+    return change((session) => (value === '' ? session.clearTag(first) : session.setTag(first, second)), has, costOf(name + value));
   },
 
   // The marks of the move at the cursor are taken out.
   unmark({ has }) {
-    changed();
-    return { status: session.clearMarks(), state: state(has) };
+    return change((session) => session.clearNags(), has);
   },
 
   // How the game ended, by its number.
   result({ value, has }) {
-    changed();
-    return { status: session.setResult(value), state: state(has) };
+    return change((session) => session.setResult(value), has);
   },
 
-  // The moves of a position as they are written (SAN).
   words({ fen, moves }) {
     return words(fen, moves);
   },
 
-  // The line of moves to the cursor, as the engine reads it. The board is gone through only where a move of it isn't known yet.
+  // The line of moves to the cursor, as the engine reads it.
   position() {
-    const root = rootNow();
-    const nodes = nodesOn(root, line('path').trim()).slice(1);
-    if (nodes.includes(undefined)) throw new Error(`the game can\u2019t be written: ${written.pgn.trim()}`);
-    if (root.fen === undefined || nodes.some((it) => it.move === undefined)) {
-      moved('start');
-      root.fen = line('fen').trim();
-      for (const it of nodes) {
-        it.move ??= session.read(it.san);
-        moved(`step ${it.index}`);
-      }
-    }
-    return `position fen ${root.fen}${nodes.length ? ' moves ' : ''}${nodes.map((it) => it.move).join(' ')}`;
+    const game = writtenNow();
+    game.start ||= startFen();
+    const moves = on(board, (session) => session.lineToHere());
+    return ['position fen', game.start, ...(moves.length ? ['moves', ...moves] : [])].join(' ');
   },
 
   // The export form of a text's first game.
   export({ bytes }) {
-    return readOne(bytes);
+    return first(bytes);
   },
 
-  // The text's first game comes on the board, if it isn't too long to be shown, the cursor at the node with that path.
+  // The text of a game of which an earlier page kept the tags and the result beside the moves that the board wrote: `{status, text}`.
+  older({ tags, result, pgn }) {
+    return orMemory(() => read((session) => older(session, tags, result, pgn)), { status: MEMORY, text: '' });
+  },
+
+  // The text's first game comes on the board, the cursor at the node with that path.
   load({ bytes, path = '-', has }) {
-    const game = readOne(bytes);
-    return game.status === OK ? jobs.restore({ bytes, path, has }) : { ...game, where: faultAt(bytes, 0, game) };
+    const game = first(bytes);
+    if (game.status === OK) return jobs.restore({ bytes: bytes.subarray(0, game.used), path, has });
+    return { ...game, where: game.status > FAULTS ? faultAt(bytes, 0, game.status - FAULTS, placeIn(bytes, game.used)) : null };
   },
 
   // The game of a text which the board wrote comes on the board, the cursor at that path.
   restore({ bytes, path, has }) {
     changed();
-    session.hold(bytes);
-    const loaded = session.load(0);
-    if (loaded.status !== OK) return loaded;
-    if (path !== '-') line(`goto ${path}`);
-    return { ...loaded, state: state(has) };
+    const found = orMemory(() => begin(board, bytes), { status: MEMORY, used: 0 });
+    if (found.status !== OK) return found;
+    if (path !== '-') answer(`goto ${path}`);
+    return { ...found, state: state(has) };
   },
 
   // Where the game with that number among those of the text begins and ends; null where there is none.
   place({ bytes, number }) {
-    session.hold(bytes);
-    for (let at = 0, i = 1; ; i++) {
-      const game = session.game(at);
-      if (game.status === NONE) return null;
-      if (i === number) return game.status === OK ? { from: begins(bytes, at, game), end: at + game.used } : null;
-      const passed = game.status === OK ? game.used : session.pass(at);
-      if (passed === 0) return null;
-      at += passed;
-    }
+    for (const { game } of entries(bytes)) if (game && game.index + 1 === number) return { from: begins(bytes, game), end: game.place + game.length };
+    return null;
   },
 
   // What a board beside answers to `new` or `set FEN`, and the FEN that it then has.
   tried({ text }) {
-    const answer = beside.line(text).trim();
-    return { answer, fen: answer === 'ok' ? beside.line('fen').trim() : '' };
+    const said = beside().line(toBytes(text));
+    return { answer: said, fen: said === 'ok' ? beside().fen() : '' };
   },
 
   // The positions of a text, line after line, each with what is said of it, or why a line is none, some at a time.
   async positions({ bytes, id }) {
-    let found = [];
-    let last = performance.now();
+    const parts = new Parts(id);
     for (const [i, text] of fromBytes(bytes).split('\n').entries()) {
       if (!text.trim()) continue;
       const { fen, said } = position(text);
-      const { answer, fen: as } = jobs.tried({ text: `set ${fen}` });
-      found.push(answer === 'ok' ? { number: i + 1, fen: as, said } : { number: i + 1, refused: answer, text: text.trim().slice(0, 80) });
-      if (performance.now() - last > 100) {
-        postMessage({ id, part: found });
-        found = [];
-        await new Promise((done) => { setTimeout(done); });
-        last = performance.now();
-      }
+      const { answer: answered, fen: as } = jobs.tried({ text: `set ${fen}` });
+      parts.found.push(answered === 'ok' ? { number: i + 1, fen: as, said } : { number: i + 1, refused: answered, text: text.trim().slice(0, 80) });
+      await parts.pause();
     }
-    return { found };
+    return { found: parts.found };
   },
 
-  // The games of a text, or the faults of those that can't be read, some at a time.
+  // The games of a text, each with what the Laws say against it, or the faults of those that can't be read, some at a time.
   async games({ bytes, id }) {
-    session.hold(bytes);
-    let at = 0;
-    let number = 0;
-    let row = 1;
-    let found = [];
-    let last = performance.now();
-    for (;;) {
-      const from = at;
-      const game = session.game(at);
-      if (game.status === NONE) break;
-      number++;
-      if (game.status === OK) {
-        found.push({ number, at, used: game.used, finding: finding(session.report(at)), ...heading(game.text) });
-        at += game.used;
-      } else {
-        found.push({ number, at, fault: game.status - 40, where: faultAt(bytes, at, game, row) });
-        const passed = session.pass(at);
-        if (passed === 0) break;
-        at += passed;
-      }
-      row += feeds(bytes, from, at);
-      if (performance.now() - last > 100) {
-        postMessage({ id, part: found });
-        found = [];
-        // Other jobs come between, and put their texts there.
-        await new Promise((done) => { setTimeout(done); });
-        session.hold(bytes);
-        last = performance.now();
-      }
+    const parts = new Parts(id);
+    let count = 0;
+    for (const it of listed(bytes)) {
+      count++;
+      parts.found.push(entry(bytes, it));
+      await parts.pause();
     }
-    return { found, number };
+    return { found: parts.found, number: count };
   },
 };
 

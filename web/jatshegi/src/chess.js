@@ -5,7 +5,7 @@ import { begin, beside, costOf, faultOf, keep, line, on, placeIn, readers, theMe
 import { tagsOf, treeOf, Node } from './export.js';
 import { ARGUMENT, AT_ROOT, BAD_NAME, BAD_VALUE, MEMORY, NONE, OK, OWN_TAG } from './memory.js';
 import { menOf, pieceOf, placedOf } from './move.js';
-import { NAMES, attackersOf, colorOf, countsOf, lineOf, movesOf, sansOf, squareOf, tried } from './questions.js';
+import { NAMES, colorOf, lineOf, movesOf, squareOf, tried } from './questions.js';
 import { search } from './search.js';
 
 export const DEFAULT_POSITION = 'rnbqkbnr/pppppppp/8/8/8/8/PPPPPPPP/RNBQKBNR w KQkq - 0 1';
@@ -83,12 +83,18 @@ export class Chess {
     return this.fen().split(' ');
   }
 
+  // The board has the game of a text; where that is none, nothing has changed.
+  #take(text) {
+    const { status, used } = begin(this.#kept, text);
+    if (status !== OK) throw faultOf(status, placeIn(text, used));
+  }
+
   #begin(fen, keepsHeaders) {
     const { ok, answer } = tried(fen);
     if (!ok) throw refusal(answer, fen);
     const text = toBytes(beside().pgn());
     if (keepsHeaders) line(this.#kept, `set ${fen}`);
-    else begin(this.#kept, text);
+    else this.#take(text);
     this.#kept.version++;
     this.#draft = null;
   }
@@ -207,17 +213,14 @@ export class Chess {
 
   moves({ verbose = false, square, piece } = {}) {
     if (square !== undefined) squareOf(square);
-    const answer = this.#ask('moves');
-    const fen = this.fen();
-    const men = piece === undefined ? null : menOf(fen.split(' ')[0]);
-    const lans = (answer === 'none' ? [] : answer.split(' ')).filter((it) => (square === undefined || it.startsWith(square)) && (!men || men.get(it.slice(0, 2)).toLowerCase() === piece));
-    return verbose ? movesOf(fen, lans) : sansOf(fen, lans);
+    const men = piece === undefined ? null : menOf(this.#fields()[0]);
+    const wants = (lan) => (square === undefined || lan.startsWith(square)) && (!men || men.get(lan.slice(0, 2)).toLowerCase() === piece);
+    return verbose ? movesOf(this.fen(), this.lans().filter(wants)) : on(this.#position(), (session) => session.sans(wants));
   }
 
   /** The legal moves in long algebraic notation, by squares. */
   lans() {
-    const answer = this.#ask('moves');
-    return answer === 'none' ? [] : answer.split(' ');
+    return on(this.#position(), (session) => session.moves());
   }
 
   // The legal move that a text or an object names, in long algebraic notation; else why it names none.
@@ -228,15 +231,15 @@ export class Chess {
       // (a promotion that no move has is passed over, as chess.js does)
       texts = move.promotion === undefined ? [pair] : [pair + move.promotion, pair];
     }
+    // (of two spellings the first says why)
+    let why = '';
     for (const text of texts) {
       encode(text);
-      const lan = on(this.#position(), (session) => session.read(text));
-      if (lan !== null) return lan;
+      const found = on(this.#position(), (session) => ({ lan: session.read(text), why: session.why }));
+      if (found.lan !== null) return found.lan;
+      why ||= found.why;
     }
-    const [text] = texts;
-    const asked = `${text} in ${this.fen()}`;
-    const why = /^\S+$/.test(text) ? line(this.#kept, `claim ${text}`) : 'refused 1 Form';
-    throw refusal(why.startsWith('refused ') ? why : 'refused 1 Form', asked);
+    throw refusal(why, `${texts[0]} in ${this.fen()}`);
   }
 
   /** Makes the move: along a node that has it, else as a further variation. */
@@ -296,24 +299,23 @@ export class Chess {
 
   /** `mate`, `stalemate`, `dead`, `fivefold`, `seventyfive` or `play`. */
   status() {
-    return this.#ask('status');
+    return on(this.#position(), (session) => session.status());
   }
 
   /** The draws that may be claimed, `threefold` and `fifty`; with a move, those that may be claimed with it. */
   claims(move) {
-    const answer = move === undefined ? this.#ask('claims') : this.#ask(`claim ${this.#named(move)}`);
-    return answer === 'none' ? [] : answer.split(' ');
+    const lan = move === undefined ? undefined : this.#named(move);
+    return on(this.#position(), (session) => session.claims(lan));
   }
 
   /** How often the position has come up. */
   repetitions() {
-    return Number(this.#ask('count'));
+    return on(this.#position(), (session) => session.repetitions());
   }
 
   /** The squares of the men that give check. */
   checks() {
-    const answer = this.#ask('checks');
-    return answer === 'none' ? [] : answer.split(' ');
+    return on(this.#position(), (session) => session.checks());
   }
 
   isCheck() {
@@ -357,7 +359,9 @@ export class Chess {
 
   /** How many men of a colour attack each square, by its name. */
   counts(color) {
-    return countsOf(this.#ask(`counts ${colorOf(color)}`));
+    const place = 'wb'.indexOf(colorOf(color));
+    const counts = on(this.#position(), (session) => session.counts())[place];
+    return Object.fromEntries(NAMES.map((name, i) => [name, counts[i]]));
   }
 
   isAttacked(square, color) {
@@ -367,12 +371,12 @@ export class Chess {
   attackers(square, color = this.turn()) {
     squareOf(square);
     colorOf(color);
-    return attackersOf(this.fen(), color, square, this.turn() === color ? this.checks() : []);
+    return on(this.#position(), (session) => session.attackers('wb'.indexOf(color), square));
   }
 
   /** Centipawns, for White. */
   evaluate() {
-    return Number(this.#ask('eval'));
+    return on(this.#position(), (session) => session.evaluation());
   }
 
   /** The first move of greatest minimax value, 1 to 16 plies deep: `{move, score: {cp} or {mate}}`; null where no move is legal. */
@@ -385,7 +389,7 @@ export class Chess {
 
   /** The same depth after depth, while other things go on: an async iterator of `{depth, move, score}`. `signal` ends it. */
   search(depth, { signal } = {}) {
-    const lans = this.history({ verbose: true }).map((it) => it.lan);
+    const lans = on(this.#position(), (session) => session.lineToHere());
     return search({ start: this.#startFen(), lans, fen: this.fen(), depth, signal });
   }
 
@@ -469,7 +473,6 @@ export class Chess {
   clearNags() {
     const status = on(this.#kept, (session) => session.clearNags());
     if (status === AT_ROOT) throw refusal('refused 2 AtRoot', 'clearNags');
-    if (status !== OK) throw strange('jatshegi_board_clear_annotations', status);
     this.#kept.version++;
   }
 
@@ -516,7 +519,7 @@ export class Chess {
 
   /** Its bytes, as `chess pgn` writes them. */
   pgnBytes() {
-    return toBytes(on(this.#position(), (session) => session.pgn()));
+    return on(this.#position(), (session) => session.pgnBytes());
   }
 
   /** The game of a text comes on the board, the cursor at the end of its main line. Where the text isn't one game, nothing has changed. */
@@ -532,7 +535,7 @@ export class Chess {
     if (next.status === MEMORY) throw noMemory();
     if (next.status === OK) throw new ChessError('Many', 'more than one game: read them by games() or readGames()', { place: placeIn(bytes, one.used) });
     if (next.status !== NONE) throw faultOf(next.status, placeIn(bytes, one.used + next.used));
-    begin(this.#kept, bytes);
+    this.#take(bytes);
     this.#draft = null;
     this.toEnd();
   }
@@ -551,11 +554,7 @@ export class Chess {
   }
 
   #heading(name, action, cost = 0) {
-    const status = on(this.#kept, (session) => {
-      const code = action(session);
-      if (code === MEMORY) throw noMemory();
-      return code;
-    }, cost);
+    const status = on(this.#kept, action, cost);
     this.#kept.version++;
     if (status === OK) return;
     this.#kept.version--;

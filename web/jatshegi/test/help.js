@@ -4,7 +4,7 @@ import { spawnSync } from 'node:child_process';
 import { fileURLToPath } from 'node:url';
 import { ChessError } from '../src/node.js';
 
-export const CHESS = process.env.CHESS ?? fileURLToPath(new URL('../../release/x86_64-linux/bin/chess', import.meta.url));
+export const CHESS = process.env.CHESS ?? fileURLToPath(new URL('../../../release/x86_64-linux/bin/chess', import.meta.url));
 
 /** What the program writes for a word and an input: `{output, error}`, bytes and a text. */
 export const chess = (word, input) => {

@@ -1,4 +1,4 @@
-// A move as users of chess.js know it. What it is is read off what the module wrote: its text, and the FENs before and after it.
+// A move as users of chess.js know it. What sort of move it is the module says; its men are those of the FEN before it.
 
 /** The men of a FEN's first field, by their squares. */
 export const menOf = (placed) => {
@@ -21,29 +21,37 @@ export const placedOf = (men) => [8, 7, 6, 5, 4, 3, 2, 1].map((rank) => {
 
 export const pieceOf = (letter) => (letter ? { type: letter.toLowerCase(), color: letter === letter.toLowerCase() ? 'b' : 'w' } : undefined);
 
+// The men of the position that was asked for last: moves are mostly of one.
+let last = { placed: '', men: new Map() };
+const menIn = (placed) => {
+  if (last.placed !== placed) last = { placed, men: menOf(placed) };
+  return last.men;
+};
+
 export class Move {
-  constructor(lan, san, before, after) {
+  constructor(lan, san, kinds, before, after) {
     const [placed, color] = before.split(' ');
-    const men = menOf(placed);
+    const men = menIn(placed);
     this.color = color;
     this.from = lan.slice(0, 2);
     this.to = lan.slice(2, 4);
     this.piece = men.get(this.from).toLowerCase();
-    const there = men.get(this.to);
-    if (san.includes('x')) this.captured = there ? there.toLowerCase() : 'p';
+    // (en passant a pawn is captured that stands on another square)
+    if (kinds.includes('capture')) this.captured = kinds.includes('enPassant') ? 'p' : men.get(this.to).toLowerCase();
     if (lan.length > 4) this.promotion = lan[4];
-    this.flags = this.#flags(san, there);
+    this.flags = this.#flags(kinds);
     this.san = san;
     this.lan = lan;
     this.before = before;
     this.after = after;
   }
 
-  #flags(san, there) {
-    if (san.startsWith('O-O-O')) return 'q';
-    if (san.startsWith('O-O')) return 'k';
-    const isBig = this.piece === 'p' && Math.abs(this.to[1] - this.from[1]) === 2;
-    const takes = !this.captured ? '' : there ? 'c' : 'e';
+  #flags(kinds) {
+    const has = (kind) => kinds.includes(kind);
+    if (has('queenSide')) return 'q';
+    if (has('kingSide')) return 'k';
+    const isBig = has('pawn') && Math.abs(this.to[1] - this.from[1]) === 2;
+    const takes = has('enPassant') ? 'e' : has('capture') ? 'c' : '';
     return `${takes || (isBig ? 'b' : 'n')}${this.promotion ? 'p' : ''}`;
   }
 

@@ -4,7 +4,7 @@ import { start } from './core.js';
 
 export * from './core.js';
 
-const places = ['./jatshegi.wasm', '../../web/jatshegi.wasm'].map((path) => new URL(path, import.meta.url));
+const places = ['./jatshegi.wasm', '../../jatshegi.wasm'].map((path) => new URL(path, import.meta.url));
 start(await readFile(places[0]).catch((error) => {
   if (error.code !== 'ENOENT') throw error;
   return readFile(places[1]);

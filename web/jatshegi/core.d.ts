@@ -58,7 +58,8 @@ export declare class ChessError extends Error {
   /** Where in the text: the byte from 0, the line and the column from 1. */
   readonly place: Place | null;
 }
-export type Fault = ChessError & { index: number; place: Place };
+/** `from` is the byte where the game that can't be read begins. */
+export type Fault = ChessError & { index: number; place: Place; from: number };
 
 export declare class Move {
   readonly color: Color;
@@ -136,6 +137,8 @@ export declare class Game {
   readonly place: number;
   readonly length: number;
   pgn(): string;
+  /** The tags in the order of the text, each with its value. */
+  tags(): [string, string][];
   getHeaders(): Record<string, string>;
   root(): Node;
   moves(): string[];

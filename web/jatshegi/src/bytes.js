@@ -32,7 +32,11 @@ export const fromBytes = (bytes) => {
   return text;
 };
 
-export const toBytes = (text) => Uint8Array.from(text, (c) => c.charCodeAt(0));
+export const toBytes = (text) => {
+  const bytes = new Uint8Array(text.length);
+  for (let i = 0; i < text.length; i++) bytes[i] = text.charCodeAt(i);
+  return bytes;
+};
 
 /** The text of bytes. */
 export const decode = (bytes) => {

@@ -2,7 +2,7 @@
 // which the module wrote and reads again as the same games.
 import { FAULTS, MEMORY, Memory, NONE, OK, Session } from './memory.js';
 import { ChessError, FAULT_NAMES, SAYS, noMemory, strange } from './errors.js';
-import { encode, isCompiled, toBytes } from './bytes.js';
+import { decode, encode, isCompiled } from './bytes.js';
 
 // The sizes of what a session is lent. A board goes into the next before it may need more: a text of it is written from its session, and that takes memory, too.
 const HEAPS = [256 << 10, 2 << 20, 16 << 20, 128 << 20, 512 << 20];
@@ -44,8 +44,7 @@ export const theMemory = () => {
 
 const taken = (heap) => idle.get(heap)?.pop() ?? new Session(theMemory(), heap);
 const giveBack = (session) => {
-  // (so that its memory is free again)
-  session.line('new');
+  session.begin();
   if (!idle.has(session.heap)) idle.set(session.heap, []);
   idle.get(session.heap).push(session);
 };
@@ -66,14 +65,15 @@ export const readers = (least = READER) => {
 export const engines = { take: () => taken(ENGINE), give: giveBack };
 
 const release = (kept) => {
+  const { session } = kept;
   live.delete(kept);
-  if (kept.session) giveBack(kept.session);
   kept.session = null;
+  if (session) giveBack(session);
 };
 
 const writtenBy = (session) => {
   try {
-    return toBytes(session.pgn());
+    return session.pgnBytes();
   } catch (error) {
     if (error.code !== 'Memory') throw error;
     return null;
@@ -118,37 +118,59 @@ const acquire = (heap) => {
   }
 };
 
-/** A new board, which goes with its owner. */
-export const keep = (owner) => {
-  const kept = { session: null, away: { text: FRESH, path: '-' }, heap: 0, weight: 0, stays: false, version: 0 };
+/**
+ * A new board, which goes with its owner. `least` is how much memory it has at least, by its place among the sizes: where there are few boards, they may begin
+ * with much, and seldom go into more.
+ */
+export const keep = (owner, least = 0) => {
+  const kept = { session: null, away: { text: FRESH, path: '-' }, least, heap: least, weight: 0, stays: false, version: 0 };
   gone.register(owner, kept);
   return kept;
 };
 
-// The board gets a session that has the game of a text (which is one), the cursor at that path; till then it keeps what it has.
+// Has the session read a text's game, and go to a path of it: as `load` answers. A path that can't be gone to wants memory.
+const loaded = (session, text, path) => {
+  try {
+    const found = session.load(text);
+    const isThere = found.status === OK && (path === '-' || session.line(`goto ${path}`) === 'ok');
+    if (isThere) return found;
+    giveBack(session);
+    return found.status === OK ? { ...found, status: MEMORY } : found;
+  } catch (error) {
+    giveBack(session);
+    throw error;
+  }
+};
+
+// The board gets a session that has the game of a text, the cursor at that path; till then it keeps what it has, and so it does where the text is no game. What
+// `load` answers.
 const settle = (kept, { text, path }, least = 0) => {
   const weight = A_BYTE_OF_TEXT * text.length;
-  for (let place = least; ; place++) {
+  for (let place = Math.max(least, kept.least); ; place++) {
     if (!holds(place, weight)) continue;
     const session = acquire(HEAPS[place]);
-    const { status } = session.load(text);
-    if (status === OK && (path === '-' || session.line(`goto ${path}`) === 'ok')) {
+    const found = loaded(session, text, path);
+    if (found.status === OK) {
       release(kept);
       Object.assign(kept, { session, away: null, heap: place, weight, stays: false });
       live.add(kept);
-      return;
     }
-    giveBack(session);
-    if (status !== MEMORY && status !== OK) throw strange('jatshegi_board_load', status);
+    if (found.status !== MEMORY) return found;
     if (place + 1 === HEAPS.length) throw noMemory();
   }
+};
+
+// The same of a text that the module wrote.
+const resettle = (kept, text, least) => {
+  const { status } = settle(kept, text, least);
+  if (status !== OK) throw strange('jatshegi_board_load', status);
 };
 
 const sessionOf = (kept) => {
   if (kept.session) {
     live.delete(kept);
     live.add(kept);
-  } else settle(kept, kept.away, kept.heap);
+  } else resettle(kept, kept.away, kept.heap);
   return kept.session;
 };
 
@@ -157,7 +179,7 @@ const enlarge = (kept) => {
   if (kept.heap + 1 === HEAPS.length) return false;
   const away = textOf(kept);
   if (!away) return false;
-  settle(kept, away, kept.heap + 1);
+  resettle(kept, away, kept.heap + 1);
   return true;
 };
 
@@ -167,13 +189,14 @@ const refit = (kept, cost) => {
   if (!away) return;
   const weight = A_BYTE_OF_TEXT * away.text.length + cost;
   if (holds(kept.heap, 2 * weight)) kept.weight = weight;
-  else settle(kept, away, kept.heap + 1);
+  else resettle(kept, away, kept.heap + 1);
 };
 
-/** The board has the game of a text, which is one. */
+/** The board has the game at the start of a text: `{status, used}`. Where the status is a fault's, or there is none, it is as it was; want of memory is thrown. */
 export const begin = (kept, text) => {
-  settle(kept, { text, path: '-' });
-  kept.version++;
+  const found = settle(kept, { text, path: '-' });
+  if (found.status === OK) kept.version++;
+  return found;
 };
 
 /** What `action` answers of the board's session, to which it adds no more than `cost`. Where there is no memory for it nothing has happened, and it is done again with more. */
@@ -208,15 +231,14 @@ export const placeIn = (bytes, at, first = { line: 1, byte: 0 }) => {
     row++;
     begin = i + 1;
   }
-  // (a column is a character of UTF-8: bytes that go on with one aren't counted)
-  let column = 1;
-  for (let i = begin; i < at; i++) if ((bytes[i] & 0xc0) !== 0x80) column++;
-  return { byte: first.byte + at, line: row, column };
+  // (a column is a character, of UTF-8 or, where the bytes aren't that, of ISO 8859-1)
+  return { byte: first.byte + at, line: row, column: [...decode(bytes.subarray(begin, at))].length + 1 };
 };
 
 /** The error of a text at whose start no game is, by the status of the call. */
 export const faultOf = (status, place) => {
   if (status === NONE) return new ChessError('NoGame', 'no game: the text is white');
+  if (status <= FAULTS) return strange('a text', status);
   const code = FAULT_NAMES[status - FAULTS - 1];
   return new ChessError(code, `line ${place.line}, column ${place.column}: ${SAYS[code]}`, { number: status - FAULTS, place });
 };

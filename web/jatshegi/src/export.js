@@ -53,6 +53,14 @@ export class Node {
   }
 }
 
+/** The bytes of an export form up to its movetext. */
+export const headOf = (bytes) => {
+  if (bytes[0] === 10) return bytes.subarray(0, 1);
+  let end = bytes.indexOf(10);
+  while (end >= 0 && bytes[end + 1] !== 10) end = bytes.indexOf(10, end + 1);
+  return bytes.subarray(0, end + 2);
+};
+
 const TAG = /^\[([A-Za-z0-9_]+) "(.*)"\]$/s;
 
 /** The tags of an export form (a byte string), `[name, value]`, and where its movetext begins. */
@@ -68,12 +76,12 @@ export const tagsOf = (text) => {
 
 const WORD = /\{([^}]*)\}|(\()|(\))|\$(\d+)|(\d+\.+)|(1-0|0-1|1\/2-1\/2|\*)(?=\s|$)|([^\s(){}]+)/g;
 
-/** The root of an export form's tree. */
-export const treeOf = (text) => {
+/** The root of the tree of an export form's movetext. */
+export const treeIn = (movetext) => {
   const root = new Node(null, 0, null);
   const saved = [];
   let here = root;
-  for (const [, comment, opens, closes, nag, counted, marker, san] of text.slice(tagsOf(text).end).matchAll(WORD)) {
+  for (const [, comment, opens, closes, nag, counted, marker, san] of movetext.matchAll(WORD)) {
     if (comment !== undefined) here.comment = shown(comment.replace(/[\t-\r ]+/g, ' ').trim());
     else if (opens) {
       saved.push(here);
@@ -88,3 +96,6 @@ export const treeOf = (text) => {
   }
   return root;
 };
+
+/** The root of an export form's tree. */
+export const treeOf = (text) => treeIn(text.slice(tagsOf(text).end));

@@ -115,8 +115,8 @@ const ROWS = {
 
 for (const [name, checks] of Object.entries(ROWS)) test(name, checks);
 
-test('the table has these rows', { skip: !existsSync(new URL('../../docs/JAVASCRIPT.md', import.meta.url)) }, () => {
-  const page = readFileSync(new URL('../../docs/JAVASCRIPT.md', import.meta.url), 'utf-8');
+test('the table has these rows', { skip: !existsSync(new URL('../../../docs/JAVASCRIPT.md', import.meta.url)) }, () => {
+  const page = readFileSync(new URL('../../../docs/JAVASCRIPT.md', import.meta.url), 'utf-8');
   const table = /## Beside chess\.js\n([\s\S]*?)\n## /.exec(page)[1];
   const rows = [...table.matchAll(/^\| ([^|]+?) \|/gm)].map(([, it]) => it.replaceAll('`', ''));
   assert.deepEqual(rows, Object.keys(ROWS));

@@ -4,6 +4,10 @@ import test from 'node:test';
 import { runInNewContext } from 'node:vm';
 import * as all from '../src/node.js';
 import { Chess, ChessError, DEFAULT_POSITION, Move, Node, games, readGames, validateFen } from '../src/node.js';
+import { theMemory } from '../src/boards.js';
+import { toBytes } from '../src/bytes.js';
+import { entries, listed } from '../src/games.js';
+import { Session } from '../src/memory.js';
 import { refuses } from './help.js';
 
 const SICILIAN = '[White "Jörg"]\n\n1.e4 e5 (1...c5 2.Nf3 {open  Sicilian 日本} $1) 2.Nf3 *';
@@ -259,6 +263,19 @@ test('games of a text', () => {
   assert.deepEqual([...games(' \n')], []);
 });
 
+test('games of a list', () => {
+  const heads = [
+    '', ' \n% [Event "x"]\n', '[White "a"]\n\n', '{c} [White "a"]\r\n\r\n', '[White "a"]\n\n[Black "b"]\n\n', '[White "a\\"]\\\\"] [Black "é"]\n{[Event "x"]\n\n}\n[Event "e"]\n\n',
+    '[FEN "4k3/4p3/8/8/8/8/4P3/R3K3 w Q - 0 1"]\n[Result "0-1"]\n\n',
+  ];
+  const tails = ['*', '1-0', 'e4', '1.e4 e5', '1. e4 {[Round "c"]\n\n} e5 (1... e6) 1/2-1/2', '{x} 1. e4 0-1', '\n{1. e4}', '; [Round "d"]\n 1. e5', '1. e4 $1 (1. e3) (', '1. f3 e5 2. g4 Qh4# 1-0'];
+  const text = heads.flatMap((head) => tails.map((tail) => `${head}${tail}\n\n[Site "s"] *\n`)).join('');
+  const told = (found, shows) => [...found].map(({ game, fault }) => (game ? [game.index, game.place, game.length, ...shows(game)] : [fault.index, fault.code, fault.from, fault.place]));
+  const wanted = told(entries(text), (it) => [it.tags(), it.report()]);
+  assert.ok(wanted.length > heads.length * tails.length);
+  assert.deepEqual(told(listed(text), (it) => [it.tags, it.report]), wanted);
+});
+
 test('games that are saved', async () => {
   const saved = [];
   const text = '1. e4 *\n\n[White "é"]\n\n1. e2-e4 e5 2. OO Nc6 *\n\n[FEN "8/8"]\n\n*';
@@ -316,6 +333,19 @@ test('whatever is passed, a call answers, or is refused by an error of its own a
       }
     }
   }
+});
+
+test('a board that begins anew has all its memory again', () => {
+  const session = new Session(theMemory(), 256 << 10);
+  const game = toBytes(`1. e4 e5 (1... c5 {${'open '.repeat(200)}}) 2. Nf3 *`);
+  for (let i = 0; i < 5000; i++) {
+    assert.equal(session.load(game).status, 0);
+    if (i % 100 === 0) assert.deepEqual(session.engine('line', 'isready'), ['readyok']);
+    session.begin();
+  }
+  assert.equal(session.fen(), DEFAULT_POSITION);
+  assert.equal(session.moves().length, 20);
+  assert.match(session.pgn(), /\n\n\*\n\n$/);
 });
 
 test('each exported name is one of the types', async () => {
