@@ -325,8 +325,8 @@ enum {
 /* The version of the library that runs, as JATSHEGI_VERSION_NUMBER is that of the header. */
 uint32_t jatshegi_version(void);
 
-/* Fills the table. */
-void jatshegi_keys_fill(struct jatshegi_keys *keys);
+/* Fills the table. OK, always. */
+uint32_t jatshegi_keys_fill(struct jatshegi_keys *keys);
 
 /* A board as a game begins; one that was there is freed. OK, NO_MEMORY. */
 uint32_t jatshegi_board_new(const struct jatshegi_keys *keys, struct jatshegi_board *board);

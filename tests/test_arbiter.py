@@ -51,6 +51,10 @@ class Arbiter(unittest.TestCase):
         rows = [json.loads(line) for line in ran.stdout.splitlines()]
         self.assertEqual([(row["threefold_ply"], row["fifty_ply"]) for row in rows], [(9, None), (None, None), (12, None), (9, None), (None, None), (None, 1)])
 
+    def test_letters_of_another_language(self):
+        (row,) = rows("1. f3 e5 2. g4 Dh4# 0-1", "--letters", "KDTLS")
+        self.assertEqual((row["winner"], row["fault"], row["plies"]), ("black", "", "4"))
+
     def test_the_wrong_winner(self):
         self.judge(BLACK_MATES + "1-0", winner="black", agrees="false")
         self.judge(BLACK_MATES + "1/2-1/2", agrees="false")
@@ -118,44 +122,90 @@ class Arbiter(unittest.TestCase):
         self.assertEqual(judged(text).returncode, 2)
         found = rows(text)
         self.assertEqual([(row["number"], row["offset"], row["white"], row["plies"], row["fault"]) for row in found],
-                         [("1", "0", "?", "0", ""), ("2", "1", "", "", "Move"), ("3", str(text.index('[White "b')), 'b, "c"', "0", "")])
+                         [("1", "0", "?", "0", ""), ("2", "1", "a", "1", "Move"), ("3", str(text.index('[White "b')), 'b, "c"', "0", "")])
         self.assertEqual(found[1]["fault_place"], str(text.index("e4 *")))
         self.assertEqual([row["number"] for row in rows(text, "--findings")], ["2"])
 
     def test_moves_after_mate_cannot_be_read(self):
-        (row,) = rows(BLACK_MATES + "3. e3 *")
-        self.assertEqual(row["fault"], "Move")
+        """The moves before the fault say what an arbiter looks for."""
+        self.judge('[White "a"]\n\n' + BLACK_MATES + "3. e3 1-0", fault="Move", white="a", plies="4", status="mate", winner="black", result="1-0", agrees="false")
+
+    def test_a_game_that_cannot_be_read_says_what_its_repaired_text_says(self):
+        self.judge('[White "a"][Result "0-1"]\n\n1. e4 e5 2. Ke3 Nf6 1-0', fault="Move", fault_place="39", white="a", plies="2", result="1-0", result_tag="0-1",
+                   other_result="true", no_marker="", start_fen="")
+        self.judge('[White "a "b" c"]\n\n1. e2-e4 e5 1/2', fault="Tag", white='a "b" c', plies="2", result="1/2-1/2")
+        self.judge(start("4k3/8/8/8/8/8/8/R3K3 w - - 0") + "1. Ra2 *", fault="Fen", plies="1", start_fen="4k3/8/8/8/8/8/8/R3K3 w - - 0 1", fen_changed="false")
+        self.judge('[White "a"]\n\n1. e4 {', fault="Truncated", white="a", plies="1")
+
+    def test_one_that_cannot_be_repaired_has_its_tags(self):
+        roster = {"White": "a", "Black": "b", "WhiteElo": "2100", "BlackElo": "1", "Event": "e", "Site": "s", "Date": "2026.??.??", "Round": "3", "Variant": "Atomic", "Result": "1-0"}
+        (row,) = rows("".join(f'[{name} "{value}"]\n' for name, value in roster.items()) + '[White "z"]\n[FEN "8/8/8/8/8/8/8/8 w - - 0 1"]\n\n*')
+        columns = ("white", "black", "white_elo", "black_elo", "event", "site", "date", "round", "variant", "result_tag")
+        self.assertEqual(tuple(row[name] for name in columns), tuple(roster.values()))
+        self.assertEqual({name for name, value in row.items() if value}, {"number", "offset", "fault_place", "fault", "other_variant", *columns})
+        self.assertEqual((row["fault"], row["other_variant"]), ("Fen", "true"))
+        (row,) = rows('[FEN "8/8/8/8/8/8/8/8 w - - 0 1"]\n\n[White "a"]*')
+        self.assertEqual({name for name, value in row.items() if value}, {"number", "offset", "fault_place", "fault", "other_variant", "white"})
+
+    def test_the_tag_result(self):
+        for tag, marker, other in (("1-0", "1-0", "false"), ("1-0", "0-1", "true"), ("1-0", "*", "true"), ("*", "*", "false"), ("?", "1-0", "true"), ("", "*", "true")):
+            self.judge(f'[Result "{tag}"]\n\n{marker}', result=marker, result_tag=tag, other_result=other, no_marker="false")
+        self.judge("1-0", result_tag="", other_result="false")
+        # The first tag of a name counts, with what a backslash hides; no comment and no other tag is taken for it.
+        self.judge('[A "[Result]"] {[Result "0-1"]} [ Result "1\\\\"][Result "1-0"]\n\n1-0', result_tag="1\\", other_result="true")
+
+    def test_no_marker(self):
+        self.judge('[Result "1-0"]\n\n1. e4 e5', result="*", no_marker="true", other_result="true")
+        self.judge("1. e4 {x*}\n", no_marker="true")
+        self.judge("1. e4 *", no_marker="false")
+        self.judge("1. e4 1-0", no_marker="false")
+        found = rows('[White "a"]\n\n1. e4\n\n[White "b"]\n\n1. e4 *')
+        self.assertEqual([row["no_marker"] for row in found], ["true", "false"])
+
+    def test_a_fen_that_is_changed(self):
+        usual = "rnbqkbnr/pppppppp/8/8/8/8/PPPPPPPP/RNBQKBNR w KQkq - 0 1"
+        self.judge(start(usual) + "*", fen_changed="false")
+        self.judge(start(usual.replace("KBNR w", "KBN1 w")) + "*", fen_changed="true", start_fen="rnbqkbnr/pppppppp/8/8/8/8/PPPPPPPP/RNBQKBN1 w Qkq - 0 1")
+        self.judge(start(usual.replace("KQkq - ", "KQkq e3 ")) + "*", fen_changed="true", start_fen="")
+        self.judge('[SetUp "0"]' + start(usual.replace("KBNR w", "KBN1 w")) + "*", fen_changed="false", start_fen="")
+        # The number of the first move is none of it: many files have 0.
+        self.judge(start(usual.replace("0 1", "0 0")) + "*", fen_changed="false", start_fen="")
+        self.judge("*", fen_changed="false")
 
     def test_findings(self):
         bare = start("4k3/8/8/8/8/8/8/R3K3 w - - 0 1")
-        text = f'{BLACK_MATES}0-1 {BLACK_MATES}1-0 {KNIGHTS * 4}e4 * {BLACK_MATES}*\n\n{bare}0-1\n\n{bare}1-0\n\n[Variant "Atomic"]\n\n*'
-        self.assertEqual([row["number"] for row in rows(text, "--findings")], ["2", "3", "4", "5", "7"])
+        changed = start("4k3/8/8/8/8/8/8/R3K3 w K - 0 1")
+        text = (f'{BLACK_MATES}0-1 {BLACK_MATES}1-0 {KNIGHTS * 4}e4 * {BLACK_MATES}*\n\n{bare}0-1\n\n{bare}1-0\n\n[Variant "Atomic"]\n\n*\n\n'
+                f'[Result "1-0"]\n\n0-1\n\n{changed}*\n\n[Result "1-0"]\n\n1-0\n\n[White "a"]\n\n1. e4')
+        self.assertEqual([row["number"] for row in rows(text, "--findings")], ["2", "3", "4", "5", "7", "8", "9", "11"])
         self.assertEqual(judged(text, "--findings").returncode, 0)
 
     def test_lines_of_json(self):
         text = b'[White "M\xfcller"]\n[Black "\xc3\xa9 \\"x\\""]\n\n' + BLACK_MATES.encode() + b"1-0\n\n[Site \"?\"]\n\n1. e5 *\n"
         good, bad = [json.loads(line) for line in judged(text, "--format", "jsonl").stdout.splitlines()]
         self.assertEqual((good["white"], good["black"], good["plies"], good["agrees"], good["over_ply"]), ("Müller", 'é "x"', 4, False, None))
-        self.assertEqual((bad["number"], bad["plies"], bad["fault"]), (2, None, "Move"))
+        self.assertEqual((bad["number"], bad["plies"], bad["fault"]), (2, 0, "Move"))
         self.assertEqual(list(good), list(rows("*")[0]))
 
     def test_a_line_of_json_to_the_byte(self):
         text = f'*\n\n[White "a"]\n\n{BLACK_MATES}1-0\n\n[Site "?"]\n\n1. e5 *\n'
         self.assertEqual(judged(text, "--findings", "--format", "jsonl").stdout.decode(),
             '{"number":2,"offset":1,"white":"a","black":"?","white_elo":null,"black_elo":null,"event":"?","site":"?","date":"????.??.??","round":"?",'
-            '"variant":null,"other_variant":false,"start_fen":null,"plies":4,"result":"1-0","status":"mate","winner":"black",'
+            '"variant":null,"other_variant":false,"start_fen":null,"fen_changed":false,"plies":4,"result":"1-0","result_tag":null,"other_result":false,'
+            '"no_marker":false,"status":"mate","winner":"black",'
             '"over_ply":null,"over_move":null,"over_why":null,"threefold_ply":null,"threefold_move":null,"fifty_ply":null,"fifty_move":null,'
             '"repetitions":1,"quiet":1,"agrees":false,"left_open":false,"bare_king_wins":false,'
             '"fen":"rnb1kbnr/pppp1ppp/8/4p3/6Pq/5P2/PPPPP2P/RNBQKBNR w KQkq - 1 3","fault_place":null,"fault":null}\n'
-            '{"number":3,"offset":39,"white":null,"black":null,"white_elo":null,"black_elo":null,"event":null,"site":null,"date":null,"round":null,'
-            '"variant":null,"other_variant":null,"start_fen":null,"plies":null,"result":null,"status":null,"winner":null,'
+            '{"number":3,"offset":39,"white":"?","black":"?","white_elo":null,"black_elo":null,"event":"?","site":"?","date":"????.??.??","round":"?",'
+            '"variant":null,"other_variant":false,"start_fen":null,"fen_changed":false,"plies":0,"result":"*","result_tag":null,"other_result":false,'
+            '"no_marker":null,"status":"play","winner":null,'
             '"over_ply":null,"over_move":null,"over_why":null,"threefold_ply":null,"threefold_move":null,"fifty_ply":null,"fifty_move":null,'
-            '"repetitions":null,"quiet":null,"agrees":null,"left_open":null,"bare_king_wins":null,"fen":null,'
-            '"fault_place":56,"fault":"Move"}\n')
+            '"repetitions":1,"quiet":0,"agrees":true,"left_open":false,"bare_king_wins":false,'
+            '"fen":"rnbqkbnr/pppppppp/8/8/8/8/PPPPPPPP/RNBQKBNR w KQkq - 0 1","fault_place":56,"fault":"Move"}\n')
 
     def test_a_row_to_the_byte(self):
         self.assertEqual(judged('[White "a, \\"b\\""][Black "c"]\n\n1. e4 *').stdout.decode().split("\r\n")[1:],
-            ['1,0,"a, ""b""",c,,,?,?,????.??.??,?,,false,,1,*,play,,,,,,,,,1,0,true,false,false,'
+            ['1,0,"a, ""b""",c,,,?,?,????.??.??,?,,false,,false,1,*,,false,false,play,,,,,,,,,1,0,true,false,false,'
              "rnbqkbnr/pppppppp/8/8/4P3/8/PPPP1PPP/RNBQKBNR b KQkq e3 0 1,,", ""])
 
     def test_rows_are_utf_8(self):

@@ -36,7 +36,7 @@ class Examples(unittest.TestCase):
 
     @unittest.skipIf(node_version() < [20, 19], "node is not installed, or older than 20.19")
     def test_javascript(self):
-        self.assertEqual(called(*first_line_of("board.mjs"), *GAME).stdout.splitlines(), ["Kxf7: refused 2 Illegal", FEN, "none", "mate"])
+        self.assertEqual(called(*first_line_of("board.mjs"), *GAME).stdout.splitlines(), ["Kxf7: Illegal", FEN, "none", "mate"])
 
     def test_the_index_names_each_program(self):
         with open(f"{runs.TOP}/examples/README.md", encoding="utf-8") as page:

@@ -88,7 +88,7 @@ class Used(unittest.TestCase):
         self.assertEqual((ran.returncode, ran.stdout.count("[Event"), ran.stderr), (2, 2, "game 2: fault 41 3 Move\n"))
         ran = called(f"{folder}/arbiter", "--findings", "--format", "jsonl", input=GAMES)
         rows = [json.loads(line) for line in ran.stdout.splitlines()]
-        self.assertEqual([(row["number"], row["white"], row["agrees"]) for row in rows], [(2, None, None), (3, "c", False)])
+        self.assertEqual([(row["number"], row["white"], row["agrees"]) for row in rows], [(2, "b", True), (3, "c", False)])
         ran = called(f"{folder}/perft", input="3 rnbqkbnr/pppppppp/8/8/8/8/PPPPPPPP/RNBQKBNR w KQkq - 0 1\n")
         self.assertEqual(ran.stdout, "8902\n")
         ran = called(f"{folder}/jatshegi", input="position startpos moves f2f3 e7e5 g2g4\ngo depth 1\n")
@@ -265,7 +265,7 @@ class Packages(Used):
         return ran.stdout.split()
 
     def test_two_builds_have_the_same_bytes(self):
-        self.assertEqual(len(self.packages[0]), 7)
+        self.assertEqual(len(self.packages[0]), 8)
         for one, other in zip(*self.packages):
             with open(one, "rb") as first, open(other, "rb") as second:
                 self.assertTrue(first.read() == second.read(), one)
@@ -281,6 +281,7 @@ class Packages(Used):
         for package, words in zip(self.packages[0], (["dpkg-deb", "--contents"], ["tar", "-tf"])):
             paths = called(*words, package).stdout
             self.assertIn("share/jatshegi/web/index.html", paths)
+            self.assertIn("share/jatshegi/web/jatshegi/src/memory.js", paths)
             self.assertNotIn("jatshegi/installed", paths)
 
     def test_the_debian_package(self):
@@ -296,18 +297,18 @@ class Packages(Used):
 
     def test_the_packages_for_arm64(self):
         """They have the files that are released for it, and the wheel says so; tests/test_arm64.py runs these."""
-        for package, words in zip(self.packages[0][4:6], (["dpkg-deb", "--extract"], ["tar", "-C", f"{self.folder}/tar", "-xf"])):
+        for package, words in zip(self.packages[0][5:7], (["dpkg-deb", "--extract"], ["tar", "-C", f"{self.folder}/tar", "-xf"])):
             os.makedirs(f"{self.folder}/tar", exist_ok=True)
             called(*words, package, *([f"{self.folder}/deb"] if words[0] == "dpkg-deb" else []))
-        self.assertEqual(called("dpkg-deb", "--field", self.packages[0][4], "Architecture").stdout, "arm64\n")
+        self.assertEqual(called("dpkg-deb", "--field", self.packages[0][5], "Architecture").stdout, "arm64\n")
         released = f"{runs.TOP}/release/aarch64-linux"
         tops = f"{self.folder}/deb/usr", f"{self.folder}/tar/jatshegi-{runs.VERSION}-aarch64-linux"
         for top, library in zip(tops, ("lib/aarch64-linux-gnu", "lib")):
             for path, of in (("bin/chess", "bin/chess"), (f"{library}/libjatshegi.so.1", "lib/libjatshegi.so.1")):
                 with open(f"{top}/{path}", "rb") as one, open(f"{released}/{of}", "rb") as other:
                     self.assertTrue(one.read() == other.read(), path)
-        self.assertRegex(self.packages[0][6], r"py3-none-manylinux_2_17_aarch64\.whl$")
-        with zipfile.ZipFile(self.packages[0][6]) as wheel, open(f"{released}/lib/libjatshegi.so.1", "rb") as library:
+        self.assertRegex(self.packages[0][7], r"py3-none-manylinux_2_17_aarch64\.whl$")
+        with zipfile.ZipFile(self.packages[0][7]) as wheel, open(f"{released}/lib/libjatshegi.so.1", "rb") as library:
             self.assertTrue(wheel.read("jatshegi/libjatshegi.so") == library.read())
             self.assertNotIn("jatshegi/_fast.abi3.so", wheel.namelist())
 

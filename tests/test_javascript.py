@@ -17,7 +17,7 @@ import firefox
 import runs
 import test_web
 
-PACKAGE = f"{runs.TOP}/js"
+PACKAGE = f"{runs.TOP}/web/jatshegi"
 CHESS = f"{runs.TOP}/release/x86_64-linux/bin/chess"
 # No test of the package takes so long, but for a machine with much else to do.
 MOST_SECONDS = 20 * runs.MOST_SECONDS
@@ -65,6 +65,16 @@ class ItsOwnTests(unittest.TestCase):
 
     def test_of_examples(self):
         self.assert_passes("examples")
+
+
+class TheModule(unittest.TestCase):
+    def test_its_functions_are_those_of_the_header(self):
+        script = "console.log(WebAssembly.Module.exports(new WebAssembly.Module(require('fs').readFileSync('web/jatshegi.wasm'))).map((it) => it.name).join(' '))"
+        names = called("node", "-e", script, cwd=runs.TOP).stdout.split()
+        with open(f"{runs.TOP}/include/jatshegi.h", encoding="utf-8") as file:
+            functions = re.findall(r"^(?:void|uint32_t) (jatshegi_\w+)\(", file.read(), re.M)
+        self.assertGreater(len(functions), 80)
+        self.assertEqual(sorted(names), sorted([*functions, "__heap_base", "memory"]))
 
 
 class ThePackage(unittest.TestCase):
@@ -148,7 +158,7 @@ class ThePackage(unittest.TestCase):
 
     def test_the_module_by_itself(self):
         """What a worker does, that has the module already compiled: without the file beside the package."""
-        words = "import { readFile } from 'node:fs/promises'; import { Chess, start } from './src/core.js'; start(new WebAssembly.Module(await readFile('../web/jatshegi.wasm'))); console.log(new Chess().moves().length)"
+        words = "import { readFile } from 'node:fs/promises'; import { Chess, start } from './src/core.js'; start(new WebAssembly.Module(await readFile('../jatshegi.wasm'))); console.log(new Chess().moves().length)"
         ran = called("node", "--input-type=module", "-e", words, cwd=PACKAGE)
         self.assertEqual(ran.stdout, "20\n", ran.stderr)
 

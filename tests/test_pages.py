@@ -7,7 +7,7 @@ import unittest
 
 import runs
 
-PAGES = ["README.md", "CONTRIBUTING.md", "CHANGELOG.md", "SECURITY.md", "crates/README.md", "examples/README.md", "js/README.md", "suite/README.md"]
+PAGES = ["README.md", "CONTRIBUTING.md", "CHANGELOG.md", "SECURITY.md", "crates/README.md", "examples/README.md", "web/jatshegi/README.md", "suite/README.md"]
 PAGES += sorted(it for folder in ("docs", ".github", ".github/ISSUE_TEMPLATE") for it in glob.glob(f"{folder}/*.md", root_dir=runs.TOP))
 
 # Words that no source has: commands of the machine, letters of men and moves, a move that is not read, and a name that stands for others.
@@ -88,7 +88,7 @@ class Pages(unittest.TestCase):
                 cls.words.update(re.findall(r"\w+", text_of(path)))
         python = glob.glob("python/jatshegi/*.py", root_dir=runs.TOP)
         rust = glob.glob("rust/src/*.rs", root_dir=runs.TOP)
-        script = glob.glob("js/src/*.js", root_dir=runs.TOP)
+        script = glob.glob("web/jatshegi/src/*.js", root_dir=runs.TOP)
         tools = [f"tools/{name}" for name in os.listdir(f"{runs.TOP}/tools")]
         suite = [f"suite/{name}" for name in glob.glob("run*", root_dir=f"{runs.TOP}/suite") + glob.glob("*.jsonl", root_dir=f"{runs.TOP}/suite")]
         suite += glob.glob("suite/boards/*.*", root_dir=runs.TOP)
@@ -116,6 +116,13 @@ class Pages(unittest.TestCase):
         """`rt ci` proves nothing in a repository that has one."""
         links = [f"{at}/{name}" for at, below, names in os.walk(runs.TOP) for name in below + names if os.path.islink(f"{at}/{name}")]
         self.assertEqual([it for it in links if not it.startswith((f"{runs.TOP}/out/", f"{runs.TOP}/.git/"))], [])
+
+    def test_crates_are_named_in_one_file(self):
+        """`rt ci` refuses another file of that name anywhere, and a source that is no crate's."""
+        found = [f"{at}/crates.txt" for at, _, names in os.walk(runs.TOP) if "crates.txt" in names]
+        self.assertEqual(found, [f"{runs.TOP}/crates.txt"])
+        sources = [f"{at}/{name}" for at, _, names in os.walk(runs.TOP) for name in names if name.endswith((".rt", ".antt"))]
+        self.assertEqual([it for it in sources if not it.startswith((f"{runs.TOP}/crates/", f"{runs.TOP}/.git/"))], [])
 
     def test_each_file_that_is_named_exists(self):
         for page in PAGES:
@@ -208,9 +215,9 @@ class Pages(unittest.TestCase):
         self.assertEqual(shown, {(version, name): f"{int(value) / 1e6:.2f}" for version, _, name, value in rows}, "make it anew: tools/benchmarks --table")
 
     def test_what_a_wrong_body_or_a_part_replaces_occurs_once(self):
-        for path in glob.glob("crates/*/must-fail/*.edit", root_dir=runs.TOP):
+        for path in glob.glob("crates/*/must-fail/*.edit", root_dir=runs.TOP) + glob.glob("crates/*/wrong/*.edit", root_dir=runs.TOP):
             text = text_of(path)
-            source = text_of(f"{path.split('/must-fail/')[0]}/{re.search(r'^file: (.*)$', text, re.M)[1]}")
+            source = text_of(f"{os.path.dirname(os.path.dirname(path))}/{re.search(r'^file: (.*)$', text, re.M)[1]}")
             with self.subTest(path=path):
                 # (a text is one line; more lines wouldn't be read)
                 pairs = re.findall(r"^old: (.*)\nnew: ?(.*)$", text, re.M)

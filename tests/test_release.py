@@ -129,7 +129,7 @@ class TheRelease(unittest.TestCase):
         """To the byte under the same kit, and lowered to a 32-bit memory under the same binaryen; tests/test_web.py tries it."""
         if manifest()[0]["kit"] != tool_version("rt", "version"):
             self.skipTest("the module was built by another kit")
-        runs.make("prove", "--wasm", "chess_web")
+        runs.make("prove", "--wasm", "chess_c")
         path, size, digest = manifest()[0]["whole"].split()
         built = read(f"{runs.TOP}/{path}")
         self.assertEqual((len(built), sum_of(built)), (int(size), digest), "make release/ anew: tools/release")

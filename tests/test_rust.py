@@ -1,14 +1,20 @@
 """The crate for Rust: its declarations are those of the header, its tests and examples pass, and it packs with the library in it."""
+import datetime
+import importlib.machinery
+import importlib.util
 import os
 import re
 import shutil
 import subprocess
+import tarfile
 import tempfile
 import unittest
 
 import runs
 
 CRATE = f"{runs.TOP}/rust"
+# The folders of release/ by Rust's names of their targets.
+TARGETS = {"x86_64-unknown-linux-gnu": "x86_64-linux", "aarch64-unknown-linux-gnu": "aarch64-linux"}
 
 
 def read(path):
@@ -93,3 +99,61 @@ class Crate(unittest.TestCase):
                 file.write("fn main() -> Result<(), jatshegi::Error> {\n    println!(\"{}\", jatshegi::Board::new()?.legal_moves().len());\n    Ok(())\n}\n")
             run = subprocess.run(["cargo", "run", "--offline", "--quiet"], cwd=folder, env=self.environment, stdout=subprocess.PIPE, stderr=subprocess.PIPE, text=True, timeout=600)
             self.assertEqual((run.stdout, run.returncode), ("20\n", 0), run.stderr)
+
+
+@unittest.skipUnless(shutil.which("cargo"), "cargo is not installed: the packed crate is not built (apt-get install cargo)")
+class Packed(unittest.TestCase):
+    """The crate that `make packages` writes, unpacked outside of the repository."""
+
+    @classmethod
+    def setUpClass(cls):
+        folder = tempfile.TemporaryDirectory()
+        cls.addClassCleanup(folder.cleanup)
+        cls.folder = folder.name
+        loader = importlib.machinery.SourceFileLoader("packages", f"{runs.TOP}/tools/packages")
+        packages = importlib.util.module_from_spec(importlib.util.spec_from_loader("packages", loader))
+        loader.exec_module(packages)
+        with tarfile.open(packages.crate(cls.folder, runs.VERSION, datetime.datetime.now())) as tar:
+            tar.extractall(cls.folder)
+        cls.crate = f"{cls.folder}/jatshegi-{runs.VERSION}"
+        cls.environment = {**os.environ, "CARGO_TARGET_DIR": f"{cls.folder}/target", "CARGO_TERM_COLOR": "never"}
+        cls.environment.pop("JATSHEGI_LIB_DIR", None)
+
+    def ran(self, *words, cwd, **more):
+        run = subprocess.run(words, cwd=cwd, env=self.environment | more, stdin=subprocess.DEVNULL, capture_output=True, text=True, timeout=600)
+        self.assertEqual(run.returncode, 0, run.stdout + run.stderr)
+        return run.stdout
+
+    def test_it_has_the_released_library_of_each_target(self):
+        for target, system in TARGETS.items():
+            with open(f"{self.crate}/lib/{target}/libjatshegi.a", "rb") as packed, open(f"{runs.TOP}/release/{system}/lib/libjatshegi.a", "rb") as released:
+                self.assertTrue(packed.read() == released.read(), target)
+
+    def test_cargo_packs_it_again_with_all(self):
+        listed = set(self.ran("cargo", "package", "--offline", "--allow-dirty", "--list", cwd=self.crate).split())
+        here = {os.path.relpath(f"{at}/{name}", self.crate) for at, _, names in os.walk(self.crate) for name in names}
+        self.assertEqual(here - listed, set())
+        # (builds what it has packed)
+        self.ran("cargo", "package", "--offline", "--allow-dirty", "--quiet", cwd=self.crate)
+
+    def test_a_crate_of_a_users_own(self):
+        os.makedirs(f"{self.folder}/mine/src")
+        with open(f"{self.folder}/mine/Cargo.toml", "w", encoding="utf-8") as file:
+            file.write(f'[package]\nname = "mine"\nversion = "0.1.0"\nedition = "2021"\n\n[dependencies]\njatshegi = {{ path = "../jatshegi-{runs.VERSION}" }}\n')
+        with open(f"{self.folder}/mine/src/main.rs", "w", encoding="utf-8") as file:
+            file.write("fn main() -> Result<(), jatshegi::Error> {\n    println!(\"{}\", jatshegi::Board::new()?.legal_moves().len());\n    Ok(())\n}\n")
+        self.assertEqual(self.ran("cargo", "run", "--offline", "--quiet", cwd=f"{self.folder}/mine"), "20\n")
+
+    def test_the_library_is_that_of_the_target(self):
+        """What is linked is chosen by the target alone; tests/test_arm64.py runs that for arm64, since no Rust for arm64 is at hand."""
+        self.ran("rustc", "--edition", "2021", "-o", f"{self.folder}/build", f"{self.crate}/build.rs", cwd=self.folder)
+        for target in TARGETS:
+            said = self.ran(f"{self.folder}/build", cwd=self.folder, TARGET=target, CARGO_MANIFEST_DIR=self.crate)
+            self.assertIn(f"cargo:rustc-link-search=native={self.crate}/lib/{target}\n", said)
+        other = subprocess.run([f"{self.folder}/build"], env={"TARGET": "x86_64-pc-windows-gnu", "CARGO_MANIFEST_DIR": self.crate}, capture_output=True, text=True)
+        self.assertNotEqual(other.returncode, 0)
+        self.assertIn("there is no libjatshegi.a for x86_64-pc-windows-gnu", other.stderr)
+
+
+if __name__ == "__main__":
+    unittest.main()

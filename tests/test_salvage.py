@@ -140,6 +140,24 @@ class Salvage(unittest.TestCase):
             self.assertEqual(written[0], written[-1])
         self.check((game + BAD.encode()) * 30_000)
 
+    def test_letters_of_other_languages(self):
+        """A word that is a move in both languages is the other one's; tags, comments and words of evaluation stay, and English is read as ever."""
+        german = '[Event "Td1"]\n\n1. e4 e5 2. Sf3 {Sf3 Dd1} Sc6 (2... d6 3. Lc4 Lg4) 3. Lb5 a6 ; Lb5\n4. Sg1 Dh4 D 5. L:c6 *'
+        promotions = '[FEN "7k/P7/8/8/8/8/8/K7 w - - 0 1"]\n\n1. a8D+ (1. a8=T+) (1. a8(S)) *'
+        french = "1. e4 e5 2. Re2 Re7 3. Cf3 Cf6 4. Tg1 *"
+        for letters, text, moves, count in (
+            ("KDTLS", german, "1. e4 e5 2. Nf3 {Sf3 Dd1} 2... Nc6 (2... d6 3. Bc4 Bg4) 3. Bb5 a6 {Lb5} 4. Ng1 Qh4 $220 5. Bxc6 *", 8),
+            ("KDTLS", promotions, "1. a8=Q+ (1. a8=R+) (1. a8=N) *", 3),
+            ("RDTFC", french, "1. e4 e5 2. Ke2 Ke7 3. Nf3 Nf6 4. Rg1 *", 5),
+        ):
+            saved = ran(text.encode(), "--salvage", "--letters", letters)
+            self.assertEqual((movetexts(saved.stdout), saved.stderr.count(b"Letter\n")), ([moves], count), (text, saved.stderr))
+        english = "\n\n".join(games()).encode()
+        self.assertEqual(ran(english, "--salvage", "--letters", "KDTLS").stdout, ran(english).stdout)
+        for words in (["--letters", "KDTLS"], *(["--salvage", "--letters", wrong] for wrong in ("", "KDTL", "KDTLL", "kdtls", "KDTLSX"))):
+            ended = subprocess.run([GAMES, *words], input=b"", capture_output=True, timeout=runs.MOST_SECONDS)
+            self.assertEqual((ended.returncode, b"--letters" in ended.stderr), (1, True), words)
+
     def test_a_game_that_cannot_be_saved(self):
         text = b'[FEN "8/8"]\n\n1. e4 *\n\n' + games()[0].encode()
         saved = self.check(text)

@@ -139,7 +139,7 @@ class Suite(unittest.TestCase):
         text = read(f"{SUITE}/boards/{name}")
         here = f"{SUITE}/boards"
         places = {"ours.py": ('f"{os.path.dirname(os.path.realpath(__file__))}/../../python"', f'"{runs.TOP}/python"'),
-                  "ours.mjs": ("'../../js/src/node.js'", f"'file://{runs.TOP}/js/src/node.js'"),
+                  "ours.mjs": ("'../../web/jatshegi/src/node.js'", f"'file://{runs.TOP}/web/jatshegi/src/node.js'"),
                   "ours.c": ("\nbool board_set(", CALLED)}
         for old, new in (places[name], *edits):
             self.assertEqual(text.count(old), 1, f"{here}/{name}: {old}")

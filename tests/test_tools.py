@@ -1,4 +1,7 @@
-"""The tools that need more than one run of a program."""
+"""The tools that need more than one run of a program, and the parts of the gate."""
+import glob
+import importlib.machinery
+import importlib.util
 import subprocess
 import unittest
 
@@ -16,3 +19,25 @@ class Tools(unittest.TestCase):
 
     def test_each_part_of_a_definition_has_its_example(self):
         self.assertIn(", 0 missed", self.ends_well("tools/parts"))
+
+    def test_the_parts_of_the_gate_are_the_whole(self):
+        """Each file of tests/ is in one part; the first of several is `rt ci` alone, and a part that there isn't is refused."""
+        loader = importlib.machinery.SourceFileLoader("gate", f"{runs.TOP}/test")
+        gate = importlib.util.module_from_spec(importlib.util.spec_from_loader("gate", loader))
+        loader.exec_module(gate)
+        names = sorted(glob.glob("test_*.py", root_dir=f"{runs.TOP}/tests"))
+        self.assertEqual(gate.part_of([]), (1, 1))
+        self.assertEqual(gate.files_of(1, 1), names)
+        for parts in range(2, 10):
+            dealt = [gate.files_of(part, parts) for part in range(1, parts + 1)]
+            self.assertEqual(dealt[0], [])
+            self.assertTrue(all(dealt[1:]))
+            self.assertEqual(sorted(name for part in dealt for name in part), names)
+            self.assertEqual(gate.part_of(["--part", f"{parts}/{parts}"]), (parts, parts))
+        for words in (["--part"], ["--part", "4/3"], ["--part", "0/3"], ["--part", "1/0"], ["1/3"], ["--part", "1/3", "more"]):
+            ran = subprocess.run([f"{runs.TOP}/test", *words], stdin=subprocess.DEVNULL, capture_output=True, text=True)
+            self.assertEqual((ran.returncode, ran.stdout[:6]), (2, "usage:"), words)
+
+
+if __name__ == "__main__":
+    unittest.main()

@@ -28,11 +28,24 @@ MARKERS = ["*", "1-0", "0-1", "1/2-1/2"]
 # So long a wait is for what never comes; what comes is seen at once.
 PATIENCE = int(os.environ.get("PATIENCE", 120))
 
-LINES = """
-const [module, lines, done] = arguments;
-import('./module.js').then(async (it) => {
-  const session = await it.open('jatshegi.wasm');
-  done(lines.map((line) => session.line(line)).join(''));
+# What a script in the page does with the package's modules, `it`, and a memory of its own.
+WITH_MODULE = """
+const [...words] = arguments;
+const done = words.pop();
+const names = ['boards', 'bytes', 'compile', 'games', 'memory'];
+Promise.all(names.map((name) => import(`./jatshegi/src/${name}.js`))).then(async (all) => {
+  const it = Object.assign({}, ...all);
+  const module = await it.compiled('jatshegi.wasm');
+  const memory = new it.Memory(module);
+  const MOST = 64 << 20;
+  // (a board's answer to a line, as the program writes it)
+  const said = (session, line) => {
+    const answer = session.line(it.toBytes(line));
+    return answer ? `${answer}\\n` : '';
+  };
+  const text = (bytes) => it.fromBytes(bytes);
+  const game = (session, bytes) => session.game(...memory.put(bytes).map(Number));
+  BODY
 }).catch((error) => done('error: ' + error));
 """
 
@@ -784,8 +797,15 @@ class TheModule(unittest.TestCase):
         cls.browser.quit()
         shutil.rmtree(cls.folder, ignore_errors=True)
 
+    def asked(self, body, *words):
+        """What the body answers in the page."""
+        return self.browser.execute_async_script(WITH_MODULE.replace("BODY", body), *words)
+
     def answers(self, lines):
-        return self.browser.execute_async_script(LINES, "", lines)
+        return self.asked("""
+            const session = new it.Session(memory, MOST);
+            done(words[0].map((line) => said(session, line)).join(''));
+        """, lines)
 
     def script(self, rng):
         """Lines as they come, most of them moves that are legal where they stand."""
@@ -833,20 +853,9 @@ class TheModule(unittest.TestCase):
             told = chess("board", given=("\n".join(self.script(rng)) + "\n").encode("latin-1")).stdout
             games.append(told[told.rindex(b"[Event "):])
         given = b"".join(games)
-        read = self.browser.execute_async_script("""
-            const [bytes, done] = arguments;
-            import('./module.js').then(async (it) => {
-              const session = await it.open('jatshegi.wasm');
-              session.hold(it.toBytes(bytes));
-              let written = '';
-              for (let at = 0; ;) {
-                const game = session.game(at);
-                if (game.status !== 0) break;
-                written += game.text;
-                at += game.used;
-              }
-              done(written);
-            }).catch((error) => done('error: ' + error));
+        read = self.asked("""
+            it.start(module);
+            done([...it.games(it.toBytes(words[0]))].map(({ bytes }) => text(bytes)).join(''));
         """, given.decode("latin-1"))
         self.assertEqual(read.encode("latin-1"), chess("pgn", given=given).stdout)
 
@@ -893,37 +902,29 @@ class TheModule(unittest.TestCase):
         games = ["1. e4 {a} (1. e4 {b} e5) 1... c5 *\n", *self.random_games(random.Random(7), 200)]
         written = chess("pgn", given="".join(games).encode())
         self.assertEqual(written.stderr, b"")
-        found = self.browser.execute_async_script("""
-            const [games, done] = arguments;
-            import('./module.js').then(async (it) => {
-              const session = await it.open('jatshegi.wasm');
-              done(games.map((text) => {
-                session.hold(it.toBytes(text));
-                const { status, used } = session.load(0);
-                return [status, used, session.line('path'), session.line('pgn')];
-              }));
-            }).catch((error) => done('error: ' + error));
+        found = self.asked("""
+            const session = new it.Session(memory, MOST);
+            done(words[0].map((game) => {
+              const { status, used } = session.load(it.toBytes(game));
+              return [status, used, session.line('path'), session.pgn()];
+            }));
         """, games)
         self.assertIsInstance(found, list, found)
-        self.assertEqual({(it[0], it[2]) for it in found}, {(0, "-\n")})
+        self.assertEqual({(it[0], it[2]) for it in found}, {(0, "-")})
         self.assertEqual([it[1] for it in found], [len(it.rstrip()) for it in games])
         self.assertEqual("".join(it[3] for it in found).encode(), written.stdout)
 
     def test_a_text_that_is_no_game_leaves_the_board(self):
         texts = [" ", "1. e5 *", "1. e4 (", "(", '[FEN "rubbish"] *']
-        found = self.browser.execute_async_script("""
-            const [texts, done] = arguments;
-            import('./module.js').then(async (it) => {
-              const session = await it.open('jatshegi.wasm');
-              const before = ['play e4', 'comment c', 'pgn', 'path'].map((line) => session.line(line)).slice(2);
-              done(texts.map((text) => {
-                session.hold(it.toBytes(text));
-                const { status, used } = session.load(0);
-                session.hold(it.toBytes(text));
-                const game = session.game(0);
-                return [status, used === game.used && status === game.status, session.line('pgn') === before[0] && session.line('path') === before[1]];
-              }));
-            }).catch((error) => done('error: ' + error));
+        found = self.asked("""
+            const session = new it.Session(memory, MOST);
+            const before = ['play e4', 'comment c', 'pgn', 'path'].map((line) => session.line(line)).slice(2);
+            done(words[0].map((given) => {
+              const bytes = it.toBytes(given);
+              const { status, used } = session.load(bytes);
+              const found = game(session, bytes);
+              return [status, used === found.used && status === found.status, session.line('pgn') === before[0] && session.line('path') === before[1]];
+            }));
         """, texts)
         self.assertEqual(found, [[status, True, True] for status in (16, 43, 46, 44, 47)])
 
@@ -1002,7 +1003,7 @@ class TheModule(unittest.TestCase):
             else:
                 wanted.append([status, str(game).rstrip() if game else ""] if job == "export" else [status])
         found = self.browser.execute_async_script("""
-            const [jobs, module, done] = arguments;
+            const [jobs, done] = arguments;
             const worker = new Worker('./worker.js', { type: 'module' });
             // (a list may come in parts, where the machine is slow)
             const ask = (job) => new Promise((ready) => {
@@ -1015,7 +1016,7 @@ class TheModule(unittest.TestCase):
             });
             const bytes = (text) => Uint8Array.from(text, (c) => c.charCodeAt(0));
             (async () => {
-              await ask({ job: 'start', module });
+              await ask({ job: 'start', module: await WebAssembly.compileStreaming(fetch('jatshegi.wasm')) });
               const found = [];
               for (const { text, ...job } of jobs) {
                 const { result, error } = await ask(text === undefined ? job : { ...job, bytes: bytes(text) });
@@ -1031,126 +1032,128 @@ class TheModule(unittest.TestCase):
               worker.terminate();
               done(found);
             })().catch((error) => done(String(error)));
-        """, jobs, f"http://127.0.0.1:{server.server_port}/jatshegi.wasm")
+        """, jobs)
         self.assertIsInstance(found, list, found)
         for number, (job, it, want) in enumerate(zip(jobs, found, wanted)):
             self.assertEqual(it, want, (number, job))
         self.assertEqual(len(found), len(wanted))
 
     def test_memory_that_is_too_small_is_an_error(self):
-        found = self.browser.execute_async_script("""
-            const done = arguments[0];
-            import('./module.js').then(async (it) => {
-              const found = [];
-              for (const heap of [0, 16, 32, 48, 1024, 65536, 131072, 160000, 180000, 200000, 262144, 524288, 1048576]) {
-                const session = await it.open('jatshegi.wasm', { heap, room: 65536 });
-                const answers = session.opened === 0 ? ['play e4', 'play e5', 'set 8/8/8/k7/8/8/8/K7 w - - 0 1', 'pgn', 'fen'].map((line) => session.line(line)) : [];
-                session.hold(it.toBytes('1. e4 e5 (1... c5 2. Nf3) 2. Nf3 *'));
-                const game = session.game(0);
-                found.push([heap, session.opened, answers, game.status, session.line('fen'), session.engineLine('position startpos moves e2e4'), session.engineLine('isready')]);
+        """Boards over so little: what there is no memory for is refused, and what was lent to one that could not begin is lent again."""
+        found = self.asked("""
+            const orMemory = (action) => {
+              try {
+                return action();
+              } catch (error) {
+                return error.code;
               }
-              done(found);
-            }).catch((error) => done('error: ' + error));
+            };
+            const found = [];
+            for (const heap of [1, 16, 32, 48, 1024, 65536, 131072, 160000, 180000, 200000, 262144, 524288, 1048576]) {
+              const had = memory.top;
+              const session = orMemory(() => new it.Session(memory, heap));
+              if (session === 'Memory') {
+                const once = memory.top;
+                for (let i = 0; i < 9; i++) orMemory(() => new it.Session(memory, heap));
+                found.push([heap, 'Memory', memory.top === once && once > had]);
+                continue;
+              }
+              const answers = ['play e4', 'play e5', 'set 8/8/8/k7/8/8/8/K7 w - - 0 1', 'pgn', 'fen'].map((line) => orMemory(() => session.line(line)));
+              const { status } = game(session, it.toBytes('1. e4 e5 (1... c5 2. Nf3) 2. Nf3 *'));
+              found.push([heap, answers, status, orMemory(() => session.engine('line', 'position startpos moves e2e4')), orMemory(() => session.engine('line', 'isready'))]);
+            }
+            done(found);
         """)
         self.assertIsInstance(found, list, found)
-        self.assertEqual({it[1] for it in found}, {0, 2})
-        for heap, opened, answers, game, fen, placed, ready in found:
-            if opened == 2:
-                self.assertEqual((game, placed, ready), (1, "", ""), heap)
-                continue
+        self.assertEqual([it[2] for it in found if it[1] == "Memory"], [True] * len([it for it in found if it[1] == "Memory"]))
+        small = [it[0] for it in found if it[1] == "Memory"]
+        self.assertTrue(small and small == [it[0] for it in found][:len(small)], small)
+        for heap, answers, status, placed, ready in found[len(small):]:
             for answer in answers[:3]:
-                self.assertIn(answer, ("ok\n", "refused 5 Memory\n"))
-            self.assertIn(game, (0, 2))
-            self.assertIn(placed, ("", "info string out of memory\n"))
-            self.assertEqual(ready, "readyok\n")
-        self.assertEqual(found[-1][2][:3], ["ok\n"] * 3)
-        self.assertEqual(found[-1][3], 0)
+                self.assertIn(answer, ("ok", "refused 5 Memory", "Memory"), heap)
+            self.assertIn(status, (0, 2))
+            self.assertIn(placed, ([], "Memory"))
+            self.assertIn(ready, (["readyok"], "Memory"))
+        self.assertEqual(found[-1][1][:3], ["ok"] * 3)
+        self.assertEqual(found[-1][2:], [0, [], ["readyok"]])
 
     def test_a_tag_for_which_there_is_no_memory_changes_nothing(self):
         """Tags are set until one is refused, in memory of several sizes; taken out, they can be set again."""
-        found = self.browser.execute_async_script("""
-            const done = arguments[0];
-            import('./module.js').then(async (it) => {
-              const found = [];
-              for (const heap of [200000, 262144, 524288]) {
-                const session = await it.open('jatshegi.wasm', { heap, room: 1 << 20 });
-                session.line('play e4');
-                const named = () => [...Array(count + 2).keys()].map((i) => session.tag(`T${i}`));
-                let count = 0;
-                let status = 0;
-                let before = [];
-                while (count < 2000) {
-                  before = named().slice(0, -1);
-                  status = session.setTag(`T${count}`, `${count}`.repeat(300));
-                  if (status !== 0) break;
-                  count++;
-                }
-                const after = named().slice(0, -1);
-                const results = [session.setResult(3), session.result(), session.setResult(4), session.result()];
-                const cleared = [...Array(count).keys()].map((i) => session.clearTag(`T${i}`));
-                const again = session.setTag('T0', 'again');
-                found.push([count, status, after.every((value, i) => value === before[i] && value === (i < count ? `${i}`.repeat(300) : '')), results, cleared.every((it) => it === 0), again, session.pgn()]);
+        found = self.asked("""
+            const found = [];
+            const orMemory = (action) => {
+              try {
+                return action();
+              } catch (error) {
+                return error.code;
               }
-              done(found);
-            }).catch((error) => done('error: ' + error));
+            };
+            const set = (session, name, value) => orMemory(() => session.setTag(it.toBytes(name), it.toBytes(value)));
+            for (const heap of [262144, 524288, 1048576]) {
+              const session = new it.Session(memory, heap);
+              session.line('play e4');
+              const named = () => [...Array(count + 2).keys()].map((i) => session.tag(`T${i}`));
+              let count = 0;
+              let status = 0;
+              let before = [];
+              while (count < 2000) {
+                before = named().slice(0, -1);
+                status = set(session, `T${count}`, `${count}`.repeat(300));
+                if (status !== 0) break;
+                count++;
+              }
+              const after = named().slice(0, -1);
+              const results = [session.setResult(3), session.result(), session.setResult(4), session.result()];
+              const cleared = [...Array(count).keys()].map((i) => session.clearTag(it.toBytes(`T${i}`)));
+              const again = set(session, 'T0', 'again');
+              found.push([count, status, after.every((value, i) => value === before[i] && value === (i < count ? `${i}`.repeat(300) : null)), results, cleared.every((it) => it === 0), again, session.pgn()]);
+            }
+            done(found);
         """)
         self.assertIsInstance(found, list, found)
         unknown = "".join(f'[{name} "{value}"]\n' for name, value in [("Event", "?"), ("Site", "?"), ("Date", "????.??.??"), ("Round", "?"), ("White", "?"), ("Black", "?"), ("Result", "1/2-1/2")])
         for count, status, is_kept, results, is_cleared, again, pgn in found:
             self.assertTrue(0 < count < 2000)
-            self.assertEqual((status, is_kept, results, is_cleared, again), (2, True, [0, 3, 9, 3], True, 0))
+            self.assertEqual((status, is_kept, results, is_cleared, again), ("Memory", True, [0, 3, 9, 3], True, 0))
             self.assertEqual(pgn, f'{unknown}[T0 "again"]\n\n1. e4 1/2-1/2\n\n')
 
     def test_the_reports_of_games(self):
         texts = ["1. f3 e5 2. g4 Qh4# 1-0", "1. f3 e5 2. g4 Qh4# 0-1", "Nf3 Nf6 Ng1 Ng8 " * 5 + "e4 *", '[FEN "7k/8/6Q1/8/8/8/8/K7 b - - 0 1"] 1-0', "1. e5 *", " "]
-        found = self.browser.execute_async_script("""
-            const [texts, done] = arguments;
-            import('./module.js').then(async (it) => {
-              const session = await it.open('jatshegi.wasm');
-              done(texts.map((text) => {
-                session.hold(it.toBytes(text));
-                return session.report(0);
-              }));
-            }).catch((error) => done('error: ' + error));
+        found = self.asked("""
+            it.start(module);
+            done(words[0].map((given) => {
+              try {
+                return it.reportOf(it.toBytes(given));
+              } catch (error) {
+                return error.code;
+              }
+            }));
         """, texts)
         names = ("plies", "winner", "over", "why", "agrees")
-        wanted = [(4, 2, 4, 0, False), (4, 2, 4, 0, True), (21, 0, 16, 3, True), (0, 0, 0, 1, False), None, None]
-        self.assertEqual(found, [None if it is None else dict(zip(names, it)) for it in wanted])
+        wanted = [(4, "b", 4, "mate", False), (4, "b", 4, "mate", True), (21, None, 16, "fivefold", True), (0, None, 0, "stalemate", False), "Move", "NoGame"]
+        self.assertEqual([it if isinstance(it, str) else tuple(it[name] for name in names) for it in found], wanted)
 
     def test_the_games_of_a_text(self):
         given = b'[White "a"]\n\n1. e4 {x} e5 1-0\n\n[White "b"]\n\n1. e4 Qh9 *\n\n[White "c"]\n\n1. c4 (1. d4 d5) *\n' + b"   \n"
-        found = self.browser.execute_async_script("""
-            const [bytes, done] = arguments;
-            import('./module.js').then(async (it) => {
-              const session = await it.open('jatshegi.wasm');
-              session.hold(it.toBytes(bytes));
-              const found = [];
-              for (let at = 0; ;) {
-                const game = session.game(at);
-                found.push([game.status, game.text, at + game.used]);
-                if (game.status === 16) break;
-                at += game.status === 0 ? game.used : session.pass(at);
-              }
-              done(found);
-            }).catch((error) => done('error: ' + error));
+        found = self.asked("""
+            it.start(module);
+            done([...it.entries(it.toBytes(words[0]))].map(({ game, fault }) => (game ? [0, text(game.bytes)] : [fault.number, '', fault.place.byte, fault.from])));
         """, given.decode())
-        self.assertEqual([it[0] for it in found], [0, 43, 0, 16])
+        self.assertEqual([it[0] for it in found], [0, 3, 0])
         self.assertEqual(found[0][1].encode(), chess("pgn", given=given[:given.index(b'[White "b"]')]).stdout)
         self.assertEqual(found[1][2], given.index(b"Qh9"))
+        self.assertTrue(found[1][3] in range(given.index(b"1-0") + 3, given.index(b'[White "b"]') + 1), found[1])
         self.assertEqual(found[2][1].encode(), chess("pgn", given=given[given.index(b'[White "c"]'):]).stdout)
 
     def test_a_search_stops_at_the_next_event(self):
-        found = self.browser.execute_async_script("""
-            const done = arguments[0];
-            import('./module.js').then(async (it) => {
-              const session = await it.open('jatshegi.wasm');
-              const found = [session.engineLine('position startpos'), session.engineLine('go depth 16')];
-              for (let i = 0; i < 45; i++) found.push(session.engineSlice());
-              found.push(session.engineSearching(), session.engineLine('stop'), session.engineSearching(), session.engineSlice());
-              done(found);
-            }).catch((error) => done('error: ' + error));
+        found = self.asked("""
+            const session = new it.Session(memory, MOST);
+            const found = [session.engine('line', 'position startpos'), session.engine('line', 'go depth 16')];
+            for (let i = 0; i < 45; i++) found.push(session.engine('slice'));
+            found.push(session.searching(), session.engine('line', 'stop'), session.searching(), session.engine('slice'));
+            done(found.flat());
         """)
-        self.assertEqual([it for it in found if it], ["info depth 1 score cp 18 pv b1c3\n", "info depth 2 score cp 0 pv b1c3\n", True, "bestmove b1c3\n"])
+        self.assertEqual([it for it in found if it], ["info depth 1 score cp 18 pv b1c3", "info depth 2 score cp 0 pv b1c3", True, "bestmove b1c3"])
 
 
 DRIVER = """<!doctype html><meta charset=utf-8><iframe src=/index.html width=1200 height=900></iframe><script>
@@ -1211,7 +1214,7 @@ class InFirefox(unittest.TestCase):
 
 class TheFiles(unittest.TestCase):
     def test_the_module_is_what_the_sources_give(self):
-        made = subprocess.run([f"{runs.TOP}/tools/sources", "chess_web"], capture_output=True, check=True).stdout
+        made = subprocess.run([f"{runs.TOP}/tools/sources", "--wasm", "chess_c"], capture_output=True, check=True).stdout
         with open(f"{WEB}/jatshegi.sources", "rb") as file:
             self.assertEqual(hashlib.sha256(made).hexdigest(), hashlib.sha256(file.read()).hexdigest(), "make the module anew: tools/web")
 
@@ -1219,9 +1222,24 @@ class TheFiles(unittest.TestCase):
         ran = subprocess.run([f"{runs.TOP}/tools/offline", "--check"], capture_output=True, text=True)
         self.assertEqual((ran.returncode, ran.stderr), (0, ""))
 
+    def test_each_module_is_asked_for_at_once(self):
+        """The page names all modules that its own import, so that none waits for another."""
+        def imported(name, found):
+            if name not in found:
+                found.add(name)
+                with open(f"{WEB}/{name}", encoding="utf-8") as file:
+                    for it in re.findall(r"^(?:import|export) .*'(\.[^']+)';$", file.read(), re.M):
+                        imported(os.path.normpath(os.path.join(os.path.dirname(name), it)), found)
+            return found
+
+        with open(f"{WEB}/index.html", encoding="utf-8") as file:
+            named = re.findall(r'<(?:link rel="modulepreload" href|script type="module" src)="([^"]+)"', file.read())
+        self.assertEqual(sorted(named), sorted(imported("main.js", set())))
+
     def test_the_page_is_small(self):
-        size = sum(os.path.getsize(f"{WEB}/{name}") for name in os.listdir(WEB) if not name.startswith("jatshegi."))
-        self.assertLess(size, 200_000)
+        with open(f"{WEB}/offline.js", encoding="utf-8") as file:
+            names = re.findall(r"^  '(.+)': 'sha256", file.read(), re.M)
+        self.assertLess(sum(os.path.getsize(f"{WEB}/{name}") for name in names if not name.endswith(".wasm")), 250_000)
 
 
 def pictures():
@@ -1251,23 +1269,21 @@ def pictures():
     tearDownModule()
 
 
-SPEEDS = """
-const [done] = arguments;
-const timed = (times, call) => {
-  const begun = performance.now();
-  for (let i = 0; i < times; i++) call();
-  return (performance.now() - begun) / times;
-};
-import('./module.js').then(async (it) => {
-  const session = await it.open('jatshegi.wasm');
+SPEEDS = WITH_MODULE.replace("BODY", """
+  const timed = (times, call) => {
+    const begun = performance.now();
+    for (let i = 0; i < times; i++) call();
+    return (performance.now() - begun) / times;
+  };
+  const session = new it.Session(memory, MOST);
   session.line('set r3k2r/p1ppqpb1/bn2pnp1/3PN3/1p2P3/2N2Q1p/PPPBBPPP/R3K2R w KQkq - 0 1');
   const found = {};
   for (const line of ['moves', 'status', 'counts w', 'eval', 'fen']) found[line] = timed(2000, () => session.line(line));
+  for (const call of ['moves', 'status', 'claims', 'checks', 'counts', 'evaluation', 'fen', 'castlings']) found[`${call}()`] = timed(2000, () => session[call]());
   session.line('new');
   found['best 6'] = timed(1, () => session.line('best 6'));
   done(found);
-}).catch((error) => done('error: ' + error));
-"""
+""")
 
 
 # What one does until it is drawn: a key, or a move; each so often.
@@ -1289,7 +1305,7 @@ const begins = (m) => {
     await new Promise((go) => setTimeout(go, 400));
     const { fen, moves } = game.state;
     const begun = performance.now();
-    begins(moves.split(' ')[0]);
+    begins(moves[0]);
     while (game.state.fen === fen) await new Promise((go) => { const { port1, port2 } = new MessageChannel(); port1.onmessage = go; port2.postMessage(0); });
     await settled();
     const drawn = performance.now() - begun;
@@ -1348,26 +1364,62 @@ def step_speeds(page):
             print(f"{name} of 4,000 plies, {key} from the {place}: {drawn[0]:.0f}, {drawn[4]:.0f} ms; its frame {frame[0]:.0f}, {frame[4]:.0f} ms", flush=True)
 
 
-def speeds():
-    """Prints how long the module takes for some lines in the page, in milliseconds, how long until the page is ready, and steps and moves in long games."""
-    setUpModule()
-    with tempfile.TemporaryDirectory() as folder:
-        browser = new_browser(folder)
-        page = Page(browser)
+# A file of many games is dropped: how long until all are listed.
+LISTED = """
+const [text, times, count, done] = arguments;
+const given = new DataTransfer();
+given.items.add(new File([new TextEncoder().encode(text.repeat(times))], 'games.pgn'));
+(async () => {
+  const begun = performance.now();
+  document.body.dispatchEvent(new DragEvent('drop', { dataTransfer: given, bubbles: true, cancelable: true }));
+  while (!document.getElementById('howmany').textContent.startsWith(`${count} games`)) await new Promise((go) => setTimeout(go, 5));
+  done(performance.now() - begun);
+})().catch((error) => done(String(error)));
+"""
+
+
+def list_speeds(page):
+    """Prints how long it takes until a file of 20 MB is listed, and how busy the machine is beside."""
+    with open(f"{runs.TOP}/crates/corpus/stdout", encoding="utf-8") as file:
+        text = file.read()
+    times = 20_000_000 // len(text)
+    found = []
+    for _ in range(3):
         page.open()
-        ready = []
-        for _ in range(9):
-            browser.get("about:blank")
+        found.append(page.browser.execute_async_script(LISTED, text, times, times * text.count("[Event ")))
+    print(f"20 MB of games are listed after {min(found):.0f} ms", flush=True)
+
+
+def ready_speeds(page):
+    """Prints how long it takes from the request until the board is drawn and answers."""
+    found = []
+    for _ in range(15):
+        page.open()
+        found.append(page.script("return performance.getEntriesByName('ready')[0]?.startTime ?? performance.now()"))
+    found.sort()
+    print(f"the page is ready after {found[0]:.0f} ms, the median {found[7]:.0f}", flush=True)
+
+
+def speeds():
+    """Prints how long the module takes for some lines and calls in the page, in milliseconds, how long until the page is ready, steps and moves in long games, and
+    a list of many games: in Chromium and in Firefox, with how busy the machine is."""
+    import firefox
+    setUpModule()
+    for name, new in (("Chromium", new_browser), ("Firefox", firefox.Firefox)):
+        with tempfile.TemporaryDirectory() as folder:
+            browser = new(folder)
+            page = Page(browser)
             page.open()
-            ready.append(page.script("return performance.getEntriesByName('ready')[0]?.startTime ?? performance.now()"))
-        for line, milliseconds in browser.execute_async_script(SPEEDS).items():
-            print(f"{line}: {milliseconds:.3f} ms")
-        begun = time.monotonic()
-        chess("board", given=b"new\nbest 6\n")
-        print(f"best 6 by the program: {1000 * (time.monotonic() - begun):.0f} ms")
-        print(f"the page is ready after {sorted(ready)[4]:.0f} ms")
-        step_speeds(page)
-        browser.quit()
+            print(f"{name}, beside a load of {os.getloadavg()[0]:.1f}", flush=True)
+            ready_speeds(page)
+            for line, milliseconds in browser.execute_async_script(SPEEDS).items():
+                print(f"{line}: {milliseconds:.4f} ms")
+            step_speeds(page)
+            list_speeds(page)
+            browser.quit()
+    begun = time.monotonic()
+    chess("board", given=b"new\nbest 6\n")
+    print(f"best 6 by the program: {1000 * (time.monotonic() - begun):.0f} ms")
     tearDownModule()
 
 

@@ -64,6 +64,11 @@ FAULTS = [
     ('[FEN "rubbish"]\n\n1. e4 *', "a FEN that spells no position, at line 1, column"),
     ("[White x]\n1. e4 *", "a malformed tag, at line 1, column"),
     ("1. e4 e5 2. Nf3 & *", "a byte that begins no token, at line 1, column 17, move 2 of Black: “&”"),
+    # brackets that open nothing, variations that have just been opened, and a move that both sides may write
+    ("% ( {\n1. e4 {a (} e5 ; ((\n( 1 . ; {\n& *", "a byte that begins no token, at line 4, column 1, move 1 of Black: “&”"),
+    ("1. e4 e5 (1... c5 {THE PLACE OF THE FAULT} 2. Nf3 (2. c3 (& *", "a byte that begins no token, at line 1, column 59, move 2 of White: “&”"),
+    ("1. e4 e5 2. Nf3 Nf6 3. Bc4 Bc5 (3... d6) 4. O-O (4. O-O x *", f"{NO_MOVE}, at line 1, column 57, move 4 of Black: “x”"),
+    ("1. e4 ({x", "the text ends too soon, at line 1, column 10, move 1 of White"),
     ("1. e4 e5 {no end", "the text ends too soon, at line 1, column"),
     ('[FEN "4k3/8/8/8/8/8/8/R3K3 b - - 0 40"]\n\n40... Kd8 41. Ra8+ Kd9 *', f"{NO_MOVE}, at line 3, column 20, move 41 of Black: “Kd9”"),
 ]
@@ -73,7 +78,7 @@ OFFLINE = """
     const done = arguments[0];
     (async () => {
       const names = await caches.keys();
-      const files = await Promise.all(names.map(async (name) => (await (await caches.open(name)).keys()).map((it) => it.url.split('/').at(-1)).sort()));
+      const files = await Promise.all(names.map(async (name) => (await (await caches.open(name)).keys()).map((it) => new URL(it.url).pathname.slice(1)).sort()));
       const it = await navigator.serviceWorker.getRegistration();
       return [names, files, Boolean(it?.active && navigator.serviceWorker.controller), Boolean(it?.waiting)];
     })().then(done, (error) => done(String(error)));
@@ -277,6 +282,9 @@ class Boards:
         page.until(lambda: page.text("howmany") == "2 games, and 2 that can’t be read", "the games are listed")
         bad = [it for it in self.rows() if "read" in it]
         self.assertEqual(bad, [f"2. Can’t be read: {NO_MOVE}, at line 6, column 4, move 2 of White: “Kd3”", f"4. Can’t be read: {NO_MOVE}, at line 14, column 7, move 1 of Black: “c4”"])
+        # (a board beside was asked where they are: what it begins has none of their names)
+        page.click("new")
+        page.until(lambda: not page.moves and page.script("return window.jatshegi.game.state.tags.White") == "?", "a game without names is begun")
 
     # ---- The board editor.
 
@@ -439,7 +447,9 @@ class Boards:
             self.changes(folder, "index.html", "<h1>Newer</h1>", "<h1>Newest</h1>")
             subprocess.run([f"{runs.TOP}/tools/offline", folder], check=True)
             self.changes(folder, "words.js", "Checkmate", "Matt")
-            self.assertEqual((self.browser.execute_async_script(UPDATE), self.offline()[0]), (False, newer))
+            self.assertIs(self.browser.execute_async_script(UPDATE), False)
+            # (the browser may try it once more by itself)
+            page.until(lambda: self.offline()[0] == newer, "nothing of it is kept")
             test_web.stop(it)
             self.again(page)
             self.assertEqual((self.heading(), page.moves), ("Newer", "1. e4 e5"))

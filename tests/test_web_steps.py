@@ -16,16 +16,14 @@ setUpModule, tearDownModule = test_web.setUpModule, test_web.tearDownModule
 # came with it.
 COUNTING = """
 const asked = {};
-const { instantiate } = WebAssembly;
-WebAssembly.instantiate = async (...given) => {
-  const made = await instantiate(...given);
-  const { exports } = made.instance ?? made;
+const { Instance } = WebAssembly;
+WebAssembly.Instance = function (...given) {
+  const { exports } = new Instance(...given);
   const counted = (name, it) => (...words) => {
     asked[name] = (asked[name] ?? 0) + 1;
     return it(...words);
   };
-  const all = Object.fromEntries(Object.entries(exports).map(([name, it]) => [name, typeof it === 'function' ? counted(name, it) : it]));
-  return made.instance ? { ...made, instance: { exports: all } } : { exports: all };
+  return { exports: Object.fromEntries(Object.entries(exports).map(([name, it]) => [name, typeof it === 'function' ? counted(name, it) : it])) };
 };
 const post = globalThis.postMessage.bind(globalThis);
 globalThis.postMessage = (data) => {
@@ -113,11 +111,12 @@ class Stepping(Browsing):
             page.script(script, word)
             after, now, path = self.done()
             self.assertEqual((now, path), (text, wanted))
-            for name in ("jatshegi_board_pgn", "jatshegi_board_load", "jatshegi_game", "jatshegi_report"):
+            for name in ("jatshegi_board_pgn", "jatshegi_board_load", "jatshegi_game_read", "jatshegi_game_report"):
                 self.assertEqual(after.get(name), before.get(name), (word, name))
             self.assertEqual((after["hasText"], self.unseen()), (False, 0), word)
-            # a question for each legal move, and so many beside, however long the game is
-            self.assertLess(after["jatshegi_board_answer"] - before["jatshegi_board_answer"], 70, word)
+            # a question for each legal move, and so many beside, however long the game is; and one line more than the step
+            self.assertLess(sum(after.values()) - sum(before.values()), 100, word)
+            self.assertEqual(after["jatshegi_board_answer"] - before["jatshegi_board_answer"], 2, word)
             before = after
 
     def test_a_change_asks_once_and_draws_its_part_of_the_list(self):
@@ -146,7 +145,7 @@ class Stepping(Browsing):
             page.script("document.querySelectorAll('.move')[arguments[0]]?.click()", rng.randrange(max(1, moves)))
             self.done()
             if what == "play":
-                self.submit("san", rng.choice(page.script("return window.jatshegi.game.state.moves").split()))
+                self.submit("san", rng.choice(page.script("return window.jatshegi.game.state.moves")))
             elif what == "comment":
                 self.submit("comment", rng.choice(["", "so", f"a word {number}"]))
             elif what == "nag":

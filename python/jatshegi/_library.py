@@ -171,7 +171,7 @@ lib.jatshegi_book_find.argtypes = [c_void_p, c_size_t, c_uint64, POINTER(c_size_
 lib.jatshegi_book_find.restype = None
 lib.jatshegi_board_free.argtypes, lib.jatshegi_board_free.restype = [_slot], None
 lib.jatshegi_stop_free.argtypes, lib.jatshegi_stop_free.restype = [_stop], None
-lib.jatshegi_keys_fill.argtypes, lib.jatshegi_keys_fill.restype = [c_void_p], None
+lib.jatshegi_keys_fill.argtypes, lib.jatshegi_keys_fill.restype = [c_void_p], c_uint32
 
 # All boards share the keys, which stay as long as this module.
 KEYS = (c_uint64 * 768)()

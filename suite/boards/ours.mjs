@@ -1,5 +1,5 @@
 // The board of this repository for suite/run.mjs, a model for others: node suite/run.mjs suite/boards/ours.mjs
-import { Chess, ChessError, games } from '../../js/src/node.js';
+import { Chess, ChessError, games } from '../../web/jatshegi/src/node.js';
 
 // The kinds of fault that aren't the package's names with their words apart.
 const KINDS = {

@@ -884,12 +884,18 @@ static void ways(struct jatshegi_board *b) {
 /* A copy has the whole game at the same node, and is another board. */
 static void copies(struct jatshegi_board *b) {
     static const char game[] = "[White \"a\"]\n[ECO \"C20\"]\n\n1. e4 {one} e5 (1... c5 $1 2. Nf3) 2. Nc3 1-0";
+    static const char twins[] = "1. e4 (1. e4 c5) 1... e5 *";
     struct jatshegi_board copy = JATSHEGI_NO_BOARD;
     char text[512], other[512], reply[JATSHEGI_MOST_REPLIES];
     size_t length = 0, count = 0, used = 0;
     bool searching = false;
     struct jatshegi_move m;
     int32_t value;
+    /* (also where siblings have one move) */
+    CHECK(jatshegi_board_load(b, twins, sizeof twins - 1, &used) == JATSHEGI_OK && answers(b, "goto 1.0", "ok\n"));
+    CHECK(jatshegi_board_copy(b, &copy) == JATSHEGI_OK && answers(&copy, "path", "1.0\n"));
+    CHECK(jatshegi_board_pgn(b, text, sizeof text, &length) == JATSHEGI_OK && jatshegi_board_pgn(&copy, other, sizeof other, &count) == JATSHEGI_OK);
+    CHECK(length == count && memcmp(text, other, count) == 0);
     CHECK(jatshegi_board_load(b, game, sizeof game - 1, &used) == JATSHEGI_OK && answers(b, "goto 0.1", "ok\n"));
     CHECK(jatshegi_engine_line(b, "go infinite", 11, reply, sizeof reply, &count) == JATSHEGI_OK && jatshegi_search_start(b, 1) == JATSHEGI_OK);
     CHECK(jatshegi_board_copy(b, &copy) == JATSHEGI_OK && answers(&copy, "path", "0.1\n") && tag_is(&copy, "ECO", "C20") && tag_is(&copy, "White", "a"));

@@ -422,7 +422,7 @@ static size_t compose(enum text kind) {
     X(status_text, NO_TEXT, NOTHING, 0, OK, *jatshegi_status_text((uint32_t)a.number) ? JATSHEGI_OK : 63) \
     X(repair_text, NO_TEXT, NOTHING, 0, OK, \
       (jatshegi_repair_text((uint32_t)a.number) == NULL) == ((uint32_t)a.number > JATSHEGI_REPAIR_VARIATION) ? JATSHEGI_OK : 63) \
-    X(keys_fill, NO_TEXT, OUT(sizeof(struct jatshegi_keys), 0, 0), 0, OK, (jatshegi_keys_fill(a.out[0]), JATSHEGI_OK)) \
+    X(keys_fill, NO_TEXT, OUT(sizeof(struct jatshegi_keys), 0, 0), 0, OK, jatshegi_keys_fill(a.out[0])) \
     X(board_new, NO_TEXT, NOTHING, ALL, OK | MEMORY, jatshegi_board_new(keys, a.board)) \
     X(board_copy, NO_TEXT, NOTHING, 0, EMPTY | MEMORY, jatshegi_board_copy(a.board, a.other)) \
     X(board_free, NO_TEXT, NOTHING, ALL, OK, (jatshegi_board_free(a.small < 16 ? NULL : a.board), JATSHEGI_OK)) \
@@ -751,7 +751,10 @@ static void is_same_game(bool is_loaded) {
 static void is_saved(void) {
     size_t used = 0, count = 0, repaired;
     memcpy(&repaired, a.out[1], sizeof repaired);
-    want(ASKED(jatshegi_game_read(a.room, *a.count, written, TREE_ROOM, &count, &used)) == JATSHEGI_NO_ROOM || status == JATSHEGI_OK, "what was saved isn't read");
+    uint32_t read = ASKED(jatshegi_game_read(a.room, *a.count, written, TREE_ROOM, &count, &used));
+    /* (with its seven tags it may be longer than a game may be) */
+    if (read == JATSHEGI_PGN_TOO_LARGE && *a.count > 1048576) return;
+    want(read == JATSHEGI_NO_ROOM || read == JATSHEGI_OK, "what was saved isn't read");
     want(count == *a.count && (count > TREE_ROOM || memcmp(written, a.room, count) == 0), "what was saved is read otherwise");
     if (ASKED(jatshegi_game_read(a.text, a.length, written, 0, &count, &used)) != JATSHEGI_NO_ROOM) return;
     want(count == *a.count && used == *a.used && repaired == 0, "a good game is another after repair");

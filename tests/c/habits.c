@@ -122,12 +122,14 @@ static void little_memory(const struct jatshegi_keys *keys) {
     CHECK(held() == before);
 }
 
-int main(void) {
+/* With a word the memory isn't looked at: that of the library in C for any compiler is another. */
+int main(int count, char **words) {
     static struct jatshegi_keys keys;
     struct jatshegi_board board = JATSHEGI_NO_BOARD;
+    (void)words;
     jatshegi_keys_fill(&keys);
     printf("habits\n");
-    little_memory(&keys);
+    if (count == 1) little_memory(&keys);
     nothing_is_freed();
     CHECK(jatshegi_board_new(&keys, &board) == JATSHEGI_OK);
     empty_texts(&board);
