@@ -1,3 +1,5 @@
+//! The tests by subject: squares, boards, attacks, moves, notation, lines, streams.
+
 mod asked;
 mod attacking;
 mod boards;

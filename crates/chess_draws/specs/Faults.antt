@@ -4,7 +4,7 @@ use Rattle.chess_draws.specs.declared.fault.LineFault.{LineFault}
 use Rattle.chess_draws.specs.declared.fault.LineFault.TheVariants.{Illegal, TooLong, Memory}
 
 -- a fault's number
-abbrev pub number_of : LineFault → ℕ
-number_of Illegal = 1
-number_of TooLong = 2
-number_of Memory = 3
+abbrev pub line_fault_number : LineFault → ℕ
+line_fault_number Illegal = 1
+line_fault_number TooLong = 2
+line_fault_number Memory = 3

@@ -1,3 +1,5 @@
+//! Dead positions, and sides that can't mate, as far as the men alone show it (FIDE Laws 5.2.2, 6.9).
+
 ghost use Rattle.std.specs.Prelude.{◌≡◌, ◌==◌, filter};
 ghost use Rattle.std.specs.FinSet.{contains};
 ghost use Rattle.chess_types.specs.steps.KeptSets.{Gathers};

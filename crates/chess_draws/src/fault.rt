@@ -1,3 +1,5 @@
+//! Why a line of moves doesn't take a move.
+
 use thiserror::Error;
 
 /// Why a move isn't added to a line. Where several apply, the first in this order is reported.
@@ -16,11 +18,11 @@ pub enum LineFault {
 
 impl LineFault {
     ghost use Rattle.std.specs.Prelude.{◌≡◌};
-    ghost use Rattle.chess_draws.specs.Faults.{number_of};
+    ghost use Rattle.chess_draws.specs.Faults.{line_fault_number};
 
     /// The fault's number, 1 to 3.
     pub fn number(self) -> u8
-        ensures { result ≡ number_of self }
+        ensures { result ≡ line_fault_number self }
     {
         self as u8
     }

@@ -1,3 +1,5 @@
+//! The law of the text by which positions are told apart (FIDE Laws 9.2.3).
+
 ghost use Rattle.std.specs.Prelude.{◌≡◌, true};
 ghost use Rattle.chess_types.specs.board.Lines.{last};
 ghost use Rattle.chess_types.specs.board.Repetition.{is_same};

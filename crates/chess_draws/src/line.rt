@@ -1,3 +1,5 @@
+//! A line of moves from a starting position: moves added, looked at and taken back, and what the whole line shows.
+
 ghost use Rattle.std.specs.Prelude.{◌≡◌, ◌+◌, ◌++◌, ◌<◌, ◌≤◌, ◌&&◌, ◌||◌, if◌then◌else◌, [], true, IsOk, IsTrue, OnOk, IfErr, IfOk, IfSome, MatchOption, List, length, nat_lt};
 ghost use Rattle.std.specs.List.{slice_get};
 ghost use Rattle.chess_types.specs.board.MoveParts.{MoveParts};

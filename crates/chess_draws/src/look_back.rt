@@ -1,3 +1,5 @@
+//! How often the last position has come up, found by a look back over the line's plies (FIDE Laws 9.2.2).
+
 ghost use Rattle.std.specs.Prelude.{◌≡◌, ℕ, ◌+◌, ◌-◌, ◌*◌, ◌++◌, ◌<◌, ◌≤◌, ◌/◌, get_or, length, map, min};
 ghost use Rattle.chess_types.specs.board.Position.{PositionParts};
 ghost use Rattle.chess_types.specs.board.Lines.{play};

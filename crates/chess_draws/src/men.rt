@@ -1,3 +1,5 @@
+//! The men of a position as five sets of squares, by which earlier positions are compared.
+
 ghost use Rattle.std.specs.Prelude.{◌≡◌, Bool, Option, false, is_some};
 ghost use Rattle.chess_types.specs.declared.board.man.Man.{Man};
 ghost use Rattle.chess_types.specs.board.Board.{Men, man_at};

@@ -1,10 +1,12 @@
+//! What a line keeps of each move, and room for one more.
+
 ghost use Rattle.std.specs.Prelude.{◌≡◌, ◌<◌, ◌≤◌, OnErr, OnOk, length, vec_capacity};
 
 use chess_play::Record;
 use chess_types::Square;
 use std::alloc::{AllocError, Allocator};
 
-/// What is kept of a move of a line, in 24 bytes: the record by which it is taken back, and of the position before it what that
+/// What is kept of a move of a line, in 20 bytes: the record by which it is taken back, and of the position before it what that
 /// position doesn't show.
 #[derive(Clone, Copy)]
 pub(crate) struct Ply {
@@ -30,6 +32,7 @@ pub(crate) fn make_room<A: Allocator>(plies: &mut Vec<Ply, A>) -> Result<(), All
     ensures kept { vec_capacity plies.old ≤ vec_capacity plies.new }
     ensures full { OnErr result (vec_capacity plies.old ≤ length plies.old.items) }
 {
+    prove!(size_of::<Ply>() == 20);
     if plies.len() < plies.capacity() {
         return Ok(());
     }

@@ -1,3 +1,5 @@
+//! What of a position is compared for repetition (FIDE Laws 9.2.3).
+
 ghost use Rattle.std.specs.Prelude.{◌≡◌};
 ghost use Rattle.chess_types.specs.board.Repetition.{counting_target, same_rights, same_target};
 ghost use Rattle.chess_draws.specs.steps.RepetitionKeys.{IsKeyOf, same_moves};

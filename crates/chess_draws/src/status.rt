@@ -1,3 +1,5 @@
+//! Status, claims and draws of a position, by how often it has come up (FIDE Laws 5 and 9).
+
 ghost use Rattle.std.specs.Prelude.{◌≡◌, ◌≤◌, ◌&&◌, ◌||◌};
 ghost use Rattle.chess_types.specs.board.Outcome.{status_at, is_play, claims_at};
 ghost use Rattle.chess_draws.specs.Draws.{is_drawn_at, is_claimable_at};

@@ -1,3 +1,5 @@
+//! A line's last position one move on, or one back, with what of it is compared.
+
 ghost use Rattle.std.specs.Prelude.{◌≡◌, ◌<◌, ◌≤◌, IsTrue};
 ghost use Rattle.chess_types.specs.board.Position.{PositionParts, man_on};
 ghost use Rattle.chess_types.specs.board.After.{after};

@@ -1,3 +1,5 @@
+//! Where an en passant target counts, in a line's first position and after each move (FIDE Laws 9.2.3.1).
+
 ghost use Rattle.std.specs.Prelude.{◌≡◌, ◌+◌, ◌<◌, ◌≤◌, ◌&&◌, IsTrue, None, false};
 ghost use Rattle.chess_types.specs.declared.board.man.Colour.TheVariants.{White, Black};
 ghost use Rattle.chess_types.specs.declared.board.man.Kind.TheVariants.{Pawn};

@@ -1,13 +1,14 @@
 -- Texts as far as they are written.
-use Rattle.std.proofs.Common.{◌≡◌, ℕ, zero, suc, ◌+◌, ◌-◌, ◌*◌, ◌<◌, ◌≤◌, List, [], ◌∷◌, ◌++◌, length, map, take, drop, get_or, Option, None, refl, ap, ◌∙◌, append-nil, append_assoc, arith}
-use Rattle.std.specs.List.{range_with_len, join_with_byte}
+use Rattle.std.proofs.Common.{◌≡◌, ℕ, zero, suc, ◌+◌, ◌-◌, ◌*◌, ◌<◌, ◌≤◌, List, [], ◌∷◌, ◌++◌, length, map, take, drop, get_or, Option, None, Some, refl, sym, true, is_none, ap, ◌∙◌, append-nil, append_assoc, arith}
+use Rattle.std.specs.List.{range_with_len, join_with_byte, list_all}
+use Rattle.std.proofs.lemmas.Bool.{true≢false}
 use Rattle.std.proofs.lemmas.List.{drop_more}
 use Rattle.std.proofs.lemmas.Grind.{common_steps}
 use Rattle.chess_types.specs.declared.board.man.Man.{Man}
 use Rattle.chess_types.specs.board.Board.{Men, man_at}
 use Rattle.chess_types.specs.board.Cells.{board_of}
 use Rattle.chess_types.proofs.CellLemmas.{get-board_of}
-use Rattle.chess_fen.specs.Writing.{cells_text, rank_text, placement_text}
+use Rattle.chess_fen.specs.Writing.{cells_text, rank_text, run_text, placement_text}
 
 -- the ranks below, each after a slash
 abbrev pub below : (ℕ → List ℕ) → ℕ → List ℕ
@@ -49,6 +50,17 @@ module _ (cells : List (Option Man)) (len : length cells ≡ 64) where
       let first : from ≡ 8 * rank = omega arith in
       rw (here, is, slash, eight, first, ← rank_text-cells rank (omega arith))
       (simp append_assoc so_far)
+
+-- squares without a man, after so many others
+cells_text-empty : (run : ℕ) (cells : List (Option Man)) → list_all is_none cells ≡ true → cells_text run cells ≡ run_text (run + length cells)
+cells_text-empty run [] are = ap run_text (omega arith)
+cells_text-empty run (None ∷ cells) are = cells_text-empty (run + 1) cells are ∙ ap run_text (omega arith)
+cells_text-empty run (Some man ∷ cells) are = absurd (true≢false (sym are))
+
+pub eight_empty : (cells : List (Option Man)) → length cells ≡ 8 → list_all is_none cells ≡ true → cells_text 0 cells ≡ 56 ∷ []
+eight_empty cells eight are =
+    let run : 0 + length cells ≡ 8 = omega (arith, eight) in
+    cells_text-empty 0 cells are ∙ ap run_text run
 
 -- two fields after the first four
 pub two_more : (t0 t1 t2 t3 t4 a b c d e f : List ℕ) → t0 ≡ join_with_byte 32 (a ∷ b ∷ c ∷ d ∷ []) → t1 ≡ t0 ++ 32 ∷ [] → t2 ≡ t1 ++ e → t3 ≡ t2 ++ 32 ∷ [] → t4 ≡ t3 ++ f

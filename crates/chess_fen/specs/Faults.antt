@@ -6,25 +6,25 @@ use Rattle.chess_fen.specs.declared.fault.FenFault.{FenFault}
 use Rattle.chess_fen.specs.declared.fault.FenFault.TheVariants.{Fields, Placement, Kings, PawnRank, TooManyMen, Side, Castling, Target, Counter, InCheck}
 
 -- a fault's number and its name
-abbrev pub number_and_name : FenFault → ℕ × List ℕ
-number_and_name Fields = (1, codes "Fields")
-number_and_name Placement = (2, codes "Placement")
-number_and_name Kings = (3, codes "Kings")
-number_and_name PawnRank = (4, codes "PawnRank")
-number_and_name TooManyMen = (5, codes "TooManyMen")
-number_and_name Side = (6, codes "Side")
-number_and_name Castling = (7, codes "Castling")
-number_and_name Target = (8, codes "Target")
-number_and_name Counter = (9, codes "Counter")
-number_and_name InCheck = (10, codes "InCheck")
+abbrev pub fen_fault_row : FenFault → ℕ × List ℕ
+fen_fault_row Fields = (1, codes "Fields")
+fen_fault_row Placement = (2, codes "Placement")
+fen_fault_row Kings = (3, codes "Kings")
+fen_fault_row PawnRank = (4, codes "PawnRank")
+fen_fault_row TooManyMen = (5, codes "TooManyMen")
+fen_fault_row Side = (6, codes "Side")
+fen_fault_row Castling = (7, codes "Castling")
+fen_fault_row Target = (8, codes "Target")
+fen_fault_row Counter = (9, codes "Counter")
+fen_fault_row InCheck = (10, codes "InCheck")
 
 -- a fault's number
-abbrev pub number_of : FenFault → ℕ
-number_of fault = (number_and_name fault).0
+abbrev pub fen_fault_number : FenFault → ℕ
+fen_fault_number fault = (fen_fault_row fault).0
 
 -- a fault's name
-abbrev pub name_of : FenFault → List ℕ
-name_of fault = (number_and_name fault).1
+abbrev pub fen_fault_name : FenFault → List ℕ
+fen_fault_name fault = (fen_fault_row fault).1
 
 -- of the field that spells what is wrong
 abbrev pub fault_of : PositionFault → FenFault

@@ -1,3 +1,5 @@
+//! The two counters of a FEN, read (PGN 16.1.3.5, 16.1.3.6).
+
 ghost use Rattle.std.specs.Prelude.{◌≡◌};
 ghost use Rattle.std.specs.Char.{is_ascii_digit};
 ghost use Rattle.std.specs.List.{list_all};

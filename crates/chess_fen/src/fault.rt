@@ -1,3 +1,5 @@
+//! Why a text is no FEN: each fault with its number and its name.
+
 ghost use Rattle.std.specs.Prelude.{◌≡◌};
 ghost use Rattle.chess_fen.specs.Faults.{fault_of};
 
@@ -58,18 +60,18 @@ impl From<PositionFault> for FenFault {
 
 impl FenFault {
     ghost use Rattle.std.specs.Prelude.{◌≡◌};
-    ghost use Rattle.chess_fen.specs.Faults.{number_of, name_of};
+    ghost use Rattle.chess_fen.specs.Faults.{fen_fault_number, fen_fault_name};
 
     /// The fault's number, 1 to 10.
     pub fn number(self) -> u8
-        ensures { result ≡ number_of self }
+        ensures { result ≡ fen_fault_number self }
     {
         self as u8
     }
 
     /// The fault's name, as `InCheck`.
     pub fn name(self) -> &'static str
-        ensures { result.now ≡ name_of self }
+        ensures { result.now ≡ fen_fault_name self }
     {
         match self {
             FenFault::Fields => "Fields",

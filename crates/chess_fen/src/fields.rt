@@ -1,3 +1,5 @@
+//! A FEN cut into its fields, and the side to move read (PGN 16.1.3).
+
 ghost use Rattle.std.specs.Prelude.{◌≡◌, ◌∷◌, [], IfOk, IfErr, OnErr};
 ghost use Rattle.byte_streams.specs.Words.{words};
 ghost use Rattle.chess_fen.specs.Reading.{counters_in, fields_in, side_in};

@@ -1,3 +1,5 @@
+//! The placement that a FEN's first field spells (PGN 16.1.3.1).
+
 ghost use Rattle.std.specs.Prelude.{◌≡◌};
 ghost use Rattle.chess_fen.specs.Reading.{board_in};
 

@@ -1,3 +1,5 @@
+//! The ranks of a FEN's first field, read as 64 squares (PGN 16.1.3.1).
+
 ghost use Rattle.std.specs.Prelude.{◌≡◌, ◌==◌, Some, option_map};
 ghost use Rattle.chess_fen.specs.Ranks.{stands_for_empty, starts_with_digit, has_adjacent_digits, cells_of_byte, both_cells, at_most, rank_cells, board_cells};
 

@@ -1,3 +1,5 @@
+//! The whole of a FEN, read as a position (PGN 16.1.3).
+
 ghost use Rattle.std.specs.Prelude.{◌≡◌, ◌≤◌, IfOk};
 ghost use Rattle.chess_types.specs.board.Position.{IsWellFormed};
 ghost use Rattle.chess_fen.specs.Reading.{fen_reading};

@@ -1,3 +1,5 @@
+//! The castling rights of a FEN, read, and those kept whose king and rook stand at home (PGN 16.1.3.3).
+
 ghost use Rattle.std.specs.Prelude.{◌≡◌, count_by, ◌==◌};
 ghost use Rattle.std.specs.List.{list_all};
 ghost use Rattle.chess_types.specs.board.Board.{man_at};

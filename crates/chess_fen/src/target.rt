@@ -1,3 +1,5 @@
+//! The en passant target of a FEN, read, and kept where a pawn's advance explains it (PGN 16.1.3.4).
+
 ghost use Rattle.std.specs.Prelude.{◌≡◌};
 ghost use Rattle.chess_types.specs.board.Board.{man_at};
 ghost use Rattle.chess_fen.specs.Reading.{target_in, kept_target};

@@ -1,4 +1,7 @@
-ghost use Rattle.std.specs.Prelude.{◌≡◌, ◌≤◌, ◌<◌, ◌+◌, if◌then◌else◌, List, [], ◌∷◌, ◌++◌, Option, None, Ok, length, ℕ};
+//! A position written as its FEN, field by field (PGN 16.1.3).
+
+ghost use Rattle.std.specs.Prelude.{◌≡◌, ◌≤◌, ◌<◌, ◌+◌, if◌then◌else◌, List, [], ◌∷◌, ◌++◌, Option, None, Ok, length, ℕ, is_none};
+ghost use Rattle.std.specs.List.{list_all};
 ghost use Rattle.arrayvec.specs.ArrayString.{array_string_len};
 ghost use Rattle.chess_types.specs.declared.board.man.Man.{Man};
 ghost use Rattle.chess_types.specs.board.Board.{man_at};
@@ -8,7 +11,7 @@ ghost use Rattle.chess_fen.specs.Reading.{fen_reading};
 ghost use Rattle.chess_fen.specs.Writing.{run_text, cells_text, four_fields, placement_text, side_text, rights_text, target_text, written};
 
 use arrayvec::ArrayString;
-use chess_types::{Colour, Man, Position, Rights, Setup, Square};
+use chess_types::{Colour, Content, Position, Rights, Setup, Square};
 use itoa::Buffer;
 
 // An ASCII character. The bound shows the compiler that it takes one byte.
@@ -35,14 +38,14 @@ fn push_run(text: &mut ArrayString<128>, run: u8)
 }
 
 // What stands on the next square, after a run of empty squares that isn't written yet; how long the run is then.
-fn push_cell(text: &mut ArrayString<128>, run: u8, cell: Option<Man>) -> u8
+fn push_cell(text: &mut ArrayString<128>, run: u8, cell: Content) -> u8
     requires few { run < 8 }
     requires room { array_string_len text.old + run + 1 ≤ 128 }
     ensures bytes { (cells : List (Option Man)) → text.new.bytes ++ cells_text result cells ≡ text.old.bytes ++ cells_text run (cell ∷ cells) }
     ensures len { array_string_len text.new + result ≤ array_string_len text.old + run + 1 }
     ensures grows { result ≤ run + 1 }
 {
-    match cell {
+    match cell.man() {
         None => run + 1,
         Some(man) => {
             push_run(text, run);
@@ -52,14 +55,21 @@ fn push_cell(text: &mut ArrayString<128>, run: u8, cell: Option<Man>) -> u8
     }
 }
 
+// Whether there is no man on the squares.
+fn are_empty(cells: &[Content]) -> bool
+    ensures { result ≡ list_all is_none cells.now }
+{
+    cells.iter().all(|cell| cell.is_empty())
+}
+
 // A rank, from file a.
-fn push_rank(text: &mut ArrayString<128>, cells: &[Option<Man>])
+fn push_rank(text: &mut ArrayString<128>, cells: &[Content])
     requires eight { length cells.now ≡ 8 }
     requires room { array_string_len text.old + 8 ≤ 128 }
     ensures bytes { text.new.bytes ≡ text.old.bytes ++ cells_text 0 cells.now }
     ensures len { array_string_len text.new ≤ array_string_len text.old + 8 }
 {
-    if let [None, None, None, None, None, None, None, None] = cells {
+    if are_empty(cells) {
         push_ascii(text, '8');
         return;
     }
@@ -71,13 +81,14 @@ fn push_rank(text: &mut ArrayString<128>, cells: &[Option<Man>])
 }
 
 // The men, the eighth rank first.
-fn placement_text(cells: &[Option<Man>; 64]) -> ArrayString<128>
+fn placement_text(cells: &[Content]) -> ArrayString<128>
+    requires { length cells.now ≡ 64 }
     ensures bytes { result.bytes ≡ placement_text (man_at (board_of cells.now)) }
     ensures len { array_string_len result ≤ 71 }
     ensures on_board { (s : ℕ) → 64 ≤ s → man_at (board_of cells.now) s ≡ None }
 {
     let mut text = ArrayString::new();
-    push_rank(&mut text, &cells[56..]);
+    push_rank(&mut text, &cells[56..64]);
     for rank in (0..7).rev() {
         text.push_str("/");
         push_rank(&mut text, &cells[8 * rank..8 * rank + 8]);

@@ -1,3 +1,5 @@
+//! Attack counts, evaluation and key as one follower of a placement.
+
 ghost use Rattle.std.specs.Prelude.{◌≡◌, ◌<◌, None, IsSome};
 ghost use Rattle.std.specs.FinMap as map;
 ghost use Rattle.chess_types.specs.board.Men.{men_of};

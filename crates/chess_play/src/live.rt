@@ -1,3 +1,5 @@
+//! A position with its attack counts, its evaluation and its key.
+
 ghost use Rattle.std.specs.Prelude.{◌≡◌, ◌≤◌};
 ghost use Rattle.chess_types.specs.board.Position.{man_on};
 ghost use Rattle.chess_attack.specs.KeptCounts.{AreCounts};

@@ -1,3 +1,5 @@
+//! A position with whatever follows it: moves are made, taken back, and tested for pseudo-legality.
+
 ghost use Rattle.std.specs.Prelude.{◌≡◌, ◌≤◌, IsTrue};
 ghost use Rattle.chess_types.specs.board.Attack.{is_attacked};
 ghost use Rattle.chess_types.specs.board.Position.{IsSetup, man_on};

@@ -1,3 +1,5 @@
+//! Whom a man may capture, where he may come, and what a pawn may become.
+
 ghost use Rattle.std.specs.Prelude.{◌≡◌};
 ghost use Rattle.chess_types.specs.board.Men.{same_colour};
 ghost use Rattle.chess_types.specs.board.Pseudo.{is_capturable, may_enter};

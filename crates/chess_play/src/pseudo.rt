@@ -1,3 +1,5 @@
+//! Whether a move is pseudo-legal: legal but perhaps for the mover's own king (FIDE Laws 3.1 to 3.8).
+
 ghost use Rattle.std.specs.Prelude.{◌≡◌, ◌&&◌, ◌<◌, is_none};
 ghost use Rattle.chess_types.specs.board.Attack.{is_attacked, leaps};
 ghost use Rattle.chess_types.specs.board.Position.{man_on};

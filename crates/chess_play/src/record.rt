@@ -1,6 +1,8 @@
+//! What is kept of a move that was made, to take it back.
+
 ghost use Rattle.std.specs.Prelude.{◌≡◌};
 
-use chess_types::{Man, Move, Rights, Square};
+use chess_types::{Content, Move, Rights, Square};
 use std::marker::Model;
 
 /// What is kept of a move made, to take it back with `Live::take_back`.
@@ -8,8 +10,8 @@ use std::marker::Model;
 pub struct Record {
     /// The move.
     pub(crate) played: Move,
-    /// The man that it captured.
-    pub(crate) captured: Option<Man>,
+    /// What it captured.
+    pub(crate) captured: Content,
     /// The castling rights before it.
     pub(crate) rights: Rights,
     /// The en passant target before it.
@@ -50,7 +52,7 @@ impl Default for Record {
     fn default() -> Record {
         Record {
             played: Move::default(),
-            captured: None,
+            captured: Content::empty(),
             rights: Rights::NONE,
             target: None,
             clock: 0,

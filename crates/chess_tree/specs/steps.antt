@@ -3,6 +3,7 @@ pub mod Rooted
 pub mod Grove
 pub mod Entries
 pub mod Slots
+pub mod KeptSlots
 pub mod Linked
 pub mod Laid
 pub mod Freed

@@ -1,3 +1,5 @@
+//! A game tree with a cursor and the line to it, on which moves are played and added.
+
 ghost use Rattle.std.specs.Prelude.{◌≡◌, ◌<◌, ◌≤◌, [], length, true, false, None, Err, IfErr, IfOk, IsTrue, Ok, OnErr, OnOk, nat_le, if◌then◌else◌};
 ghost use Rattle.chess_types.specs.board.Legal.{is_legal};
 ghost use Rattle.chess_types.specs.board.Lines.{extended, last};

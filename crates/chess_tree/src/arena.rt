@@ -1,3 +1,5 @@
+//! The nodes of a tree under their numbers, and the cursor among them.
+
 ghost use Rattle.std.specs.Prelude.{◌≡◌, ◌<◌, ◌≤◌, ◌++◌, ◌∷◌, [], nat_le, nat_lt, true, false, length, slice_index, IfOk, IsOk, OnOk, OnErr};
 ghost use Rattle.chess_tree.specs.Forest.{below_at, count, height, moves_held, most_moves};
 ghost use Rattle.chess_tree.specs.Edits.{parent};
@@ -6,6 +8,7 @@ ghost use Rattle.chess_tree.specs.steps.Rooted.{commented_root, edited_root, lea
 ghost use Rattle.chess_tree.specs.steps.Grove.{no_move};
 
 mod free;
+mod kept_slot;
 pub(crate) mod node_id;
 pub(crate) mod nodes;
 pub(crate) mod notes;

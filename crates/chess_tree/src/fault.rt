@@ -1,3 +1,5 @@
+//! Why a tree refuses a call, and why a move isn't played.
+
 use std::alloc::AllocError;
 use thiserror::Error;
 

@@ -1,3 +1,5 @@
+//! The law of moves that are taken back.
+
 ghost use Rattle.chess_tree.specs.Undo.{LosesOneAtMost, UndoesAdd, UndoesPlay};
 
 /// What holds of every tree whose cursor is at a node, where a move is taken back: after `play`, with its answer, and after `add`, all is as it was before

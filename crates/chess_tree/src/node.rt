@@ -1,3 +1,5 @@
+//! A node of a tree, to be looked at: its move, its notes and its children.
+
 ghost use Rattle.std.specs.Prelude.{◌≡◌, ◌≤◌, None, is_none};
 ghost use Rattle.chess_tree.specs.Forest.{child, count};
 ghost use Rattle.chess_tree.specs.Edits.{without_node};

@@ -1,3 +1,5 @@
+//! A game tree with a cursor at one of its nodes.
+
 ghost use Rattle.std.specs.Prelude.{◌≡◌, ◌<◌, ◌≤◌, [], nat_le, true, length, Err, MatchResult, IfOk, IfErr, OnOk, OnErr};
 ghost use Rattle.chess_types.specs.board.Legal.{is_legal};
 ghost use Rattle.chess_types.specs.board.Lines.{extended, last};

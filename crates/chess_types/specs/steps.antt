@@ -6,4 +6,5 @@ pub mod LineCode
 pub mod SetWords
 pub mod SetLaws
 pub mod SameLaws
+pub mod Marks
 pub mod KeptSets

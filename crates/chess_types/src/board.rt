@@ -2,6 +2,7 @@
 
 mod axis;
 mod cell;
+mod content;
 mod diagram;
 mod draft;
 mod faults;
@@ -16,6 +17,7 @@ mod square_set;
 
 pub use axis::Axis;
 pub use cell::{holds_pawn, is_king_of, is_man, is_of, men_in};
+pub use content::Content;
 pub use diagram::Diagram;
 pub use draft::Draft;
 pub use faults::{PositionFault, is_explained, is_home, men_fault};

@@ -1,3 +1,5 @@
+//! Tests of which squares a man attacks, of checks, and of pinned men.
+
 ghost use Rattle.std.specs.Prelude.{◌≡◌};
 ghost use Rattle.chess_types.specs.board.Men.{kings_of};
 

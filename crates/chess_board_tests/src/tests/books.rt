@@ -1,3 +1,5 @@
+//! Tests of the keys, the moves and the entries of Polyglot's opening books.
+
 use chess_fen::read;
 use chess_key::KeyTable;
 use chess_play::Live;

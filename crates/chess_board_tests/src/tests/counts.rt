@@ -1,3 +1,5 @@
+//! Tests of attack counts: of the start position, the empty board, and a rook that others stand behind.
+
 use super::boards::{board, start};
 use chess_attack::{Counts, in_check};
 use chess_types::{Colour, Placement, Square};

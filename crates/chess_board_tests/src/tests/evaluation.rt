@@ -1,3 +1,5 @@
+//! Tests of the evaluation: what men are worth, boards seen from both sides, and sums kept through changes.
+
 use super::boards::{Followed, KINDS, board, put, square, start};
 use chess_eval::{Sum, end, middle, weight};
 use chess_key::KeyTable;

@@ -1,3 +1,5 @@
+//! Tests of counts that follow a board: always those counted afresh, and how many ticks a man takes.
+
 use super::boards::{Followed, KINDS, board, start};
 use chess_attack::Counts;
 use chess_key::KeyTable;

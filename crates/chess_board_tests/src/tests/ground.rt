@@ -1,3 +1,5 @@
+//! Tests of squares, moves' texts, sets of squares and placements.
+
 use super::boards::{assert_stand, square};
 use chess_types::{Colour, Kind, Man, Move, Placement, Position, Square, SquareSet};
 use std::process::Abort;
@@ -101,7 +103,7 @@ fn square_sets_go_in_order(rt: HostRuntime) {
 
 /// Whether that man alone stands on the board, on e2.
 fn is_alone(board: &Placement, man: Man) -> bool {
-    board.cells()[12] == Some(man)
+    board.cells()[12].man() == Some(man)
         && board.men(Colour::White) == 1
         && board.men(Colour::White.opponent()) == 0
 }

@@ -1,3 +1,5 @@
+//! Tests of keys: the same in any order of puts, by any words, one word for each man on each square.
+
 use super::boards::{Followed, square};
 use chess_key::{Key, KeyTable};
 use chess_types::{Colour, Kind, Man, Placement, Square};

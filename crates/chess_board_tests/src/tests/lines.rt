@@ -1,3 +1,5 @@
+//! Tests of lines of moves: repetition, status and claims, their limits, and want of memory.
+
 ghost use Rattle.std.specs.Prelude.{◌≡◌, ◌+◌, ◌<◌};
 
 use chess_attack::{Follower, Nothing};

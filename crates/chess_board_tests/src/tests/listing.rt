@@ -1,3 +1,5 @@
+//! Tests of the list of legal moves: its order, and that no tick is made for it.
+
 use arrayvec::ArrayVec;
 use chess_key::KeyTable;
 use chess_moves::{in_check, is_legal, moves};

@@ -1,3 +1,5 @@
+//! Tests of standard algebraic notation: moves written, texts read, and faults.
+
 use super::walks::{a_move, live_in};
 use arrayvec::ArrayString;
 use chess_key::KeyTable;

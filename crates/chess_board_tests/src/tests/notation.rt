@@ -1,3 +1,5 @@
+//! Tests of FEN: texts read and written, and the first fault of those that are none.
+
 use super::boards::assert_stand;
 use chess_fen::{FenFault, read, write};
 use chess_types::{Colour, Kind, Position, Rights, Square};

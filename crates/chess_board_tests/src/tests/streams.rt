@@ -1,3 +1,5 @@
+//! Tests of sources and sinks: interrupted calls, failing calls, and bytes in pieces.
+
 use byte_streams::{Failed, FromBytes, FromRead, Sink, Source, ToBytes, ToWrite, WriteFailure};
 use std::io::{self, Error, ErrorKind, Read, Write};
 use std::process::Abort;

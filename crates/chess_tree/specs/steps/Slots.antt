@@ -1,4 +1,4 @@
--- How nodes are kept: in slots, with lists of children beside them.
+-- Nodes as slots, with lists of children beside them.
 --   slot_at       the slot with a number; leaf_slot, one without children
 --   listed        the numbers in a list
 --   children_in   a node's children

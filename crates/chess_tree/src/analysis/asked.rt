@@ -1,3 +1,5 @@
+//! What is asked of the position at an analysis' cursor: moves, texts, repetition, status, claims, and the best move.
+
 ghost use Rattle.std.specs.Prelude.{◌≡◌, ◌≤◌, true, false, IfOk, IsTrue};
 ghost use Rattle.std.specs.List.{slice_get};
 ghost use Rattle.chess_types.specs.board.Attack.{in_check as in_check_of};

@@ -1,3 +1,5 @@
+//! The edits of an analysis at its cursor, with its line.
+
 ghost use Rattle.chess_tree.specs.Calls.{Annotates, Comments, Promotes, StepsUp, Unannotates};
 ghost use Rattle.chess_tree.specs.GameTree.{deleted};
 ghost use Rattle.chess_tree.specs.Undo.{undone};

@@ -1,3 +1,5 @@
+//! The steps of an analysis' cursor, with its line.
+
 ghost use Rattle.std.specs.Prelude.{◌≡◌, [], take};
 ghost use Rattle.chess_tree.specs.Edits.{parent};
 ghost use Rattle.chess_tree.specs.GameTree.{at_path, line_along, line_to};

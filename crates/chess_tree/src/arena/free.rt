@@ -1,3 +1,5 @@
+//! The numbers of freed nodes, and how they are taken again.
+
 ghost use Rattle.std.specs.Prelude.{◌≡◌, ◌<◌, ◌≤◌, [], length, IfOk, OnErr};
 ghost use Rattle.chess_tree.specs.steps.Entries.{leaf_entry, entry_at, with_parent};
 ghost use Rattle.chess_tree.specs.steps.Freed.{IsLoosened, IsPool, IsPut};

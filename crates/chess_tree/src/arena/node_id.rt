@@ -1,3 +1,5 @@
+//! The number by which a node is named.
+
 ghost use Rattle.std.specs.Prelude.{◌≡◌};
 
 use std::marker::Model;

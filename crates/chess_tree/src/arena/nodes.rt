@@ -1,9 +1,12 @@
+//! The nodes of a tree, each with its move, its parent, its place and its children.
+
 ghost use Rattle.std.specs.Prelude.{◌≡◌, ◌<◌, ◌≤◌, ◌-◌, ◌++◌, ◌∷◌, [], length, remove, slice_get, slice_index, take, IfOk, OnOk, OnErr};
 ghost use Rattle.std.proofs.Common.{set};
 ghost use Rattle.chess_tree.specs.steps.Grove.{no_move};
 ghost use Rattle.chess_tree.specs.steps.Entries.{leaf_entry, entry_at, moved_first, with_children, with_parent, with_place};
 ghost use Rattle.chess_tree.specs.Forest.{most_moves};
 
+use super::kept_slot::KeptSlot;
 use super::node_id::NodeId;
 use super::slot::{Below, Slot};
 use chess_types::Move;
@@ -15,7 +18,7 @@ use std::marker::Model;
 #[derive(Drop)]
 pub(crate) struct Nodes<'a, A: Allocator> {
     alloc: &'a A,
-    slots: Vec<Slot, &'a A>,
+    slots: Vec<KeptSlot, &'a A>,
     /// The children of each node that ever had more than one, in lists of which each is one node's.
     lists: Vec<SmallVec<NodeId, 2, &'a A>, &'a A>,
 }
@@ -53,7 +56,7 @@ impl<'a, A: Allocator> Nodes<'a, A> {
         ensures { IfOk result (λ nodes. nodes ≡ leaf_entry no_move 0 0 ∷ []) }
     {
         let mut slots = Vec::new(alloc);
-        slots.push(Slot::leaf(Move::default(), NodeId::root(), 0))?;
+        slots.push(KeptSlot::of(Slot::leaf(Move::default(), NodeId::root(), 0)))?;
         let lists = Vec::new(alloc);
         Ok(Nodes {
             alloc,
@@ -80,7 +83,7 @@ impl<'a, A: Allocator> Nodes<'a, A> {
         requires { at < length self.now }
         ensures { result ≡ (entry_at self.now at).played }
     {
-        self.slots[at.index()].played
+        self.slots[at.index()].played()
     }
 
     /// The parent of a node.
@@ -88,7 +91,7 @@ impl<'a, A: Allocator> Nodes<'a, A> {
         requires { at < length self.now }
         ensures { result ≡ (entry_at self.now at).parent }
     {
-        self.slots[at.index()].parent
+        self.slots[at.index()].parent()
     }
 
     /// The place of a node among its parent's children, from 0.
@@ -96,7 +99,7 @@ impl<'a, A: Allocator> Nodes<'a, A> {
         requires { at < length self.now }
         ensures { result ≡ (entry_at self.now at).place }
     {
-        self.slots[at.index()].place
+        self.slots[at.index()].place()
     }
 
     /// How many children a node has.
@@ -105,7 +108,7 @@ impl<'a, A: Allocator> Nodes<'a, A> {
         requires few { length (entry_at self.now at).children ≤ 1000001 }
         ensures { result ≡ length (entry_at self.now at).children }
     {
-        match self.slots[at.index()].below {
+        match self.slots[at.index()].below() {
             Below::Nothing => 0,
             Below::One(_) => 1,
             Below::Listed(list) => self.lists[list as usize].len() as u32,
@@ -117,7 +120,7 @@ impl<'a, A: Allocator> Nodes<'a, A> {
         requires { at < length self.now }
         ensures { result ≡ slice_get (entry_at self.now at).children place }
     {
-        match self.slots[at.index()].below {
+        match self.slots[at.index()].below() {
             Below::Nothing => None,
             Below::One(child) if place == 0 => Some(child),
             Below::One(_) => None,
@@ -137,7 +140,8 @@ impl<'a, A: Allocator> Nodes<'a, A> {
         ensures err { OnErr result (self.new ≡ self.old) }
     {
         make_room(&mut self.slots)?;
-        self.slots.push(Slot::leaf(played, parent, place))?;
+        self.slots
+            .push(KeptSlot::of(Slot::leaf(played, parent, place)))?;
         Ok(())
     }
 
@@ -147,13 +151,13 @@ impl<'a, A: Allocator> Nodes<'a, A> {
         requires bare { (entry_at self.old at).children ≡ [] }
         ensures { self.new ≡ set self.old at (leaf_entry played parent place) }
     {
-        let below = self.slots[at.index()].below;
-        self.slots[at.index()] = Slot {
+        let below = self.slots[at.index()].below();
+        self.slots[at.index()] = KeptSlot::of(Slot {
             played,
             parent,
             place,
             below,
-        };
+        });
     }
 
     /// Another parent for a node.
@@ -161,7 +165,7 @@ impl<'a, A: Allocator> Nodes<'a, A> {
         requires { at < length self.old }
         ensures { self.new ≡ with_parent at parent self.old }
     {
-        self.slots[at.index()].parent = parent;
+        self.slots[at.index()].set_parent(parent);
     }
 
     /// Another place for a node.
@@ -169,7 +173,7 @@ impl<'a, A: Allocator> Nodes<'a, A> {
         requires { at < length self.old }
         ensures { self.new ≡ with_place at place self.old }
     {
-        self.slots[at.index()].place = place;
+        self.slots[at.index()].set_place(place);
     }
 
     /// A child more of a node, after the others.
@@ -178,9 +182,9 @@ impl<'a, A: Allocator> Nodes<'a, A> {
         ensures ok { OnOk result (self.new ≡ with_children at ((entry_at self.old at).children ++ child ∷ []) self.old) }
         ensures err { OnErr result (self.new ≡ self.old) }
     {
-        match self.slots[at.index()].below {
+        match self.slots[at.index()].below() {
             Below::Nothing => {
-                self.slots[at.index()].below = Below::One(child);
+                self.slots[at.index()].set_below(Below::One(child));
             }
             Below::One(first) => {
                 let list = self.lists.len() as u32;
@@ -189,7 +193,7 @@ impl<'a, A: Allocator> Nodes<'a, A> {
                 children.push(child)?;
                 make_room(&mut self.lists)?;
                 self.lists.push(children)?;
-                self.slots[at.index()].below = Below::Listed(list);
+                self.slots[at.index()].set_below(Below::Listed(list));
             }
             Below::Listed(list) => {
                 self.lists[list as usize].push(child)?;
@@ -204,10 +208,10 @@ impl<'a, A: Allocator> Nodes<'a, A> {
         ensures child { result ≡ slice_get (entry_at self.old at).children (length (entry_at self.old at).children - 1) }
         ensures nodes { self.new ≡ with_children at (take (length (entry_at self.old at).children - 1) (entry_at self.old at).children) self.old }
     {
-        match self.slots[at.index()].below {
+        match self.slots[at.index()].below() {
             Below::Nothing => None,
             Below::One(child) => {
-                self.slots[at.index()].below = Below::Nothing;
+                self.slots[at.index()].set_below(Below::Nothing);
                 Some(child)
             }
             Below::Listed(list) => {
@@ -225,9 +229,9 @@ impl<'a, A: Allocator> Nodes<'a, A> {
         requires child { place < length (entry_at self.old at).children }
         ensures { self.new ≡ with_children at (remove (entry_at self.old at).children place) self.old }
     {
-        match self.slots[at.index()].below {
+        match self.slots[at.index()].below() {
             Below::Nothing => {}
-            Below::One(_) => self.slots[at.index()].below = Below::Nothing,
+            Below::One(_) => self.slots[at.index()].set_below(Below::Nothing),
             Below::Listed(list) => {
                 let children = &mut self.lists[list as usize];
                 let _taken = children.remove(place as usize);
@@ -242,7 +246,7 @@ impl<'a, A: Allocator> Nodes<'a, A> {
         requires child { place < length (entry_at self.old at).children }
         ensures { self.new ≡ with_children at (moved_first place (entry_at self.old at).children) self.old }
     {
-        if let Below::Listed(list) = self.slots[at.index()].below {
+        if let Below::Listed(list) = self.slots[at.index()].below() {
             move_first(&mut self.lists[list as usize], place as usize);
         }
     }

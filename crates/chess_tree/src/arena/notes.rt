@@ -1,3 +1,5 @@
+//! The comments and annotation numbers of nodes, by the nodes' numbers.
+
 ghost use Rattle.std.specs.Prelude.{◌≡◌, ℕ, ◌<◌, ◌++◌, ◌∷◌, [], length, IsOk, OnOk, OnErr};
 ghost use Rattle.chess_tree.specs.steps.Rooted.{no_notes};
 ghost use Rattle.chess_tree.specs.steps.Notes.{noted_in, IsNotedAt};

@@ -1,3 +1,5 @@
+//! Children of one node: found by their move, taken out, and moved before the others.
+
 ghost use Rattle.std.specs.Prelude.{◌≡◌, ◌<◌, ◌≤◌, ◌+◌, ◌-◌, drop, length, take};
 ghost use Rattle.std.proofs.Common.{get_or};
 ghost use Rattle.chess_tree.specs.GameTree.{find, is_move};

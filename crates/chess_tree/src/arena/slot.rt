@@ -1,3 +1,5 @@
+//! A node's move, parent and place, and where its children are, as contracts see it.
+
 ghost use Rattle.std.specs.Prelude.{◌≡◌};
 ghost use Rattle.chess_tree.specs.steps.Slots.{leaf_slot};
 
@@ -15,7 +17,7 @@ pub(crate) enum Below {
     Listed(u32),
 }
 
-/// A node as it is kept: its move, its parent, its place among the parent's children, and where its own children are.
+/// A node: its move, its parent, its place among the parent's children, and where its own children are.
 #[derive(Clone, Copy)]
 pub(crate) struct Slot {
     pub(crate) played: Move,

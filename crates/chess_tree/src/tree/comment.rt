@@ -1,3 +1,5 @@
+//! Comments at a tree's cursor, their words with one space between two.
+
 ghost use Rattle.std.specs.Prelude.{◌≡◌, [], IfOk, IsOk, OnOk};
 ghost use Rattle.chess_tree.specs.Calls.{Comments};
 ghost use Rattle.chess_tree.specs.Comments.{normalised, with_next_word};

@@ -1,3 +1,5 @@
+//! The path to a tree's cursor, and steps along it.
+
 ghost use Rattle.std.specs.Prelude.{◌≡◌, ◌<◌, ◌≤◌, ◌++◌, ◌∷◌, [], length, true, false, slice_get, IfOk, IfErr, IfSome, MatchResult, OnOk, OnErr};
 ghost use Rattle.chess_tree.specs.declared.fault.TreeFault.TheVariants.{Memory, NoSuch};
 ghost use Rattle.chess_tree.specs.Forest.{count};

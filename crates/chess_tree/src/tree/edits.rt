@@ -1,3 +1,5 @@
+//! The edits of a tree at its cursor: delete, promote, and annotation numbers.
+
 ghost use Rattle.chess_tree.specs.Calls.{Annotates, Promotes, StepsUp, Unannotates};
 ghost use Rattle.chess_tree.specs.GameTree.{deleted};
 

@@ -1,3 +1,5 @@
+//! What is at a tree's cursor and at its root, to be looked at.
+
 ghost use Rattle.std.specs.Prelude.{◌≡◌};
 ghost use Rattle.chess_tree.specs.GameTree.{here, root_node};
 ghost use Rattle.chess_tree.specs.Undo.{is_bare};

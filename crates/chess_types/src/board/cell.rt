@@ -1,3 +1,5 @@
+//! What stands on a square: whether it is a man of some colour or kind.
+
 ghost use Rattle.std.specs.Prelude.{◌≡◌, count_by};
 ghost use Rattle.chess_types.specs.board.Men.{is_of, is_king_of, is_man, holds_pawn};
 

@@ -1,3 +1,5 @@
+//! A placement as a diagram of eight lines, to be printed.
+
 ghost use Rattle.std.specs.Prelude.{◌≡◌, ◌<◌, ◌≤◌, ◌+◌, ◌++◌, [], ◌∷◌, Some};
 ghost use Rattle.arrayvec.specs.ArrayString.{array_string_len};
 ghost use Rattle.chess_types.specs.declared.board.man.Colour.TheVariants.{White};

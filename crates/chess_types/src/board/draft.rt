@@ -1,3 +1,5 @@
+//! The six fields of a position that is still being put together, and whether they are a setup.
+
 ghost use Rattle.std.specs.Prelude.{◌≡◌, ◌||◌, not, None, false, ⊤};
 ghost use Rattle.std.specs.FinMap as map;
 ghost use Rattle.chess_types.specs.declared.board.man.Colour.TheVariants.{White};

@@ -1,3 +1,5 @@
+//! Why six fields are no position, and the tests that find it.
+
 ghost use Rattle.std.specs.Prelude.{◌≡◌, count_by};
 ghost use Rattle.chess_types.specs.board.Board.{man_at};
 ghost use Rattle.chess_types.specs.board.Cells.{board_of};

@@ -1,3 +1,5 @@
+//! Colours, kinds of men, and men, with their letters.
+
 ghost use Rattle.std.specs.Prelude.{◌≡◌, ◌+◌, ◌*◌, ◌<◌};
 ghost use Rattle.chess_types.specs.board.Men.{opponent, colour_number, is_king, is_pawn, kind_number};
 ghost use Rattle.chess_types.specs.board.Texts.{colour_of_letter, kind_letter, kind_of_letter, man_letter, man_of_letter};

@@ -1,3 +1,5 @@
+//! Moves, from square to square, and their texts in the notation of UCI.
+
 ghost use Rattle.std.specs.Prelude.{◌≡◌, ◌<◌, IfSome, None, Some};
 ghost use Rattle.chess_types.specs.declared.board.man.Kind.{Kind};
 ghost use Rattle.chess_types.specs.board.MoveParts.{MoveParts};

@@ -1,3 +1,5 @@
+//! How a game stands, and which draws may be claimed.
+
 ghost use Rattle.std.specs.Prelude.{◌≡◌, ◌≤◌, length};
 ghost use Rattle.chess_types.specs.board.Outcome.{status_text};
 

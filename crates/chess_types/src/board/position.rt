@@ -1,3 +1,5 @@
+//! Positions with their six fields, castling rights, and where a game begins.
+
 ghost use Rattle.std.specs.Prelude.{◌≡◌, ◌<◌, replicate, ⊤};
 ghost use Rattle.chess_types.specs.declared.board.man.Kind.TheVariants.{Pawn};
 ghost use Rattle.chess_types.specs.board.Position.{OpponentNotInCheck, back_rank, cell_of, holds, home_square, king_home, rook_home, start, start_cells};

@@ -1,3 +1,5 @@
+//! The 64 squares, by number, by file and rank, and by name.
+
 ghost use Rattle.std.specs.Prelude.{◌≡◌, ℕ, ◌<◌, ◌↔◌, IsSome, IfSome};
 ghost use Rattle.chess_types.specs.board.Squares.{file_of, rank_of};
 ghost use Rattle.chess_types.specs.board.Texts.{square_text};

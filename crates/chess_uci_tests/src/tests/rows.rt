@@ -1,3 +1,5 @@
+//! Tests of sessions by tables of events and replies: searches, clocks, `go` lines, and want of memory.
+
 use chess_key::KeyTable;
 use chess_search::AtMost;
 use chess_types::Move;
@@ -360,7 +362,7 @@ fn is_starved_at(
     session: &mut Session<'_, LocalHeap>,
     free: usize,
 ) -> Result<bool, AllocError> {
-    let taken = 20_000usize.saturating_sub(heap.used()).saturating_sub(free);
+    let taken = 20_400usize.saturating_sub(heap.used()).saturating_sub(free);
     let hog: Vec<u8, _> = Vec::with_capacity(heap, taken)?;
     let starved = is_game_refused(session);
     run(rt, session, if starved { BEST } else { GOES });

@@ -1,4 +1,5 @@
-// Moves read from texts, and shown.
+//! Moves read from texts and shown, by std's traits.
+
 ghost use Rattle.std.specs.Prelude.{Some};
 ghost use Rattle.std.specs.Fmt.{padded};
 ghost use Rattle.chess_types.specs.board.Texts.{move_text};

@@ -1,4 +1,5 @@
-// The names of the squares.
+//! The 64 squares as constants, by their names.
+
 use super::Square;
 
 impl Square {

@@ -1,4 +1,5 @@
-// Squares read from numbers and texts, and shown.
+//! Squares read from numbers and texts and shown, by std's traits.
+
 ghost use Rattle.std.specs.Prelude.{◌<◌, OkIff, Some};
 ghost use Rattle.std.specs.Fmt.{padded};
 ghost use Rattle.chess_types.specs.board.Texts.{square_text};

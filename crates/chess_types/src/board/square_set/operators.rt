@@ -1,4 +1,5 @@
-// `a & b`, `a | b`, `a - b` and `!a`, equality, and the squares' names.
+//! The operators of sets of squares, `a & b`, `a | b`, `a - b` and `!a`, whether two are equal, and how one is shown.
+
 ghost use Rattle.std.specs.Prelude.{◌≡◌, ℕ, ◌&&◌, not, nat_lt};
 ghost use Rattle.std.specs.FinSet as set;
 ghost use Rattle.std.specs.Cmp.{partial_equiv_from_equiv};

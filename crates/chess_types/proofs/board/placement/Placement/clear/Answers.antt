@@ -18,7 +18,8 @@ invariant_of-self c =
     let cells = c.self.inside.cells in
     let at = c.index.result in
     let within : at < length cells = omega arith in
-    let is = clear_cells cells at within in (
+    let is = clear_cells cells at within in
+    rw c.empty.ensures (
       λ colour. omega (arith, count-set_none cells at colour within, c.self.invariant.0 colour),
       c.clear.ensures (man_at (board_of cells)) (man_at (board_of (set cells at None))) c.self.invariant.1
           (subst (λ x. IsCleared (man_at (board_of cells)) (man_at (board_of (set cells at None))) x) c.index.ensures.value is),

@@ -23,7 +23,8 @@ loop-number-preserved c =
 pub invariant_of-result : goal.invariant_of-result
 invariant_of-result c =
     let cells = c.args.cells in
-    let len : length cells ≡ 64 = omega arith in (
+    let len : length cells ≡ 64 = omega arith in
+    rw c.contents_of.ensures (
       c.requires,
       kept_same c.loop-number.kept (so_far cells c.loop-number.number) (man_at (board_of cells)) c.loop-number.invariant
           (λ s. all_so_far cells c.loop-number.number s len c.loop-number-test.false),

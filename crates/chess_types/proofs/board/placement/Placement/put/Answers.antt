@@ -21,7 +21,8 @@ invariant_of-self c =
     let within : at < length cells = omega arith in
     let free : get_or cells at None ≡ None = grind (arith, get-board_of cells c.args.at) in
     let room = rw (← c.self.view_is) at c.requires.room in
-    let is = put_cells cells at c.args.man within free in (
+    let is = put_cells cells at c.args.man within free in
+    rw c.of.ensures (
       AtMost16-set_some cells at c.args.man len c.index.ensures.below free room c.self.invariant.0,
       c.put.ensures (man_at (board_of cells)) (man_at (board_of (set cells at (Some c.args.man)))) c.self.invariant.1
           (subst (λ x. IsPut (man_at (board_of cells)) (man_at (board_of (set cells at (Some c.args.man)))) x c.args.man) c.index.ensures.value is),
