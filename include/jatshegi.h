@@ -67,7 +67,7 @@ enum jatshegi_status {
     JATSHEGI_NO_SUCH = 12,    /* there is no such child, or no such tag */
     JATSHEGI_BAD_COMMENT = 13, /* the comment has a right brace */
     JATSHEGI_MORE = 14,       /* more bytes decide what is there */
-    JATSHEGI_NO_GAME = 16,    /* only whitespace follows */
+    JATSHEGI_NO_GAME = 16,    /* only whitespace follows; of jatshegi_game_salvage also the end of a file */
     JATSHEGI_ABANDONED = 17,  /* the search was abandoned: the positions that it may ask for were not enough, or its flag was found set */
     JATSHEGI_TAG_NAME = 18,   /* the name of a tag is empty, or has a byte that is no letter, digit or underscore */
     JATSHEGI_TAG_OWN = 19,    /* Result, FEN and SetUp are no tags: the game itself has what they say */
@@ -525,19 +525,19 @@ void jatshegi_stop_free(struct jatshegi_stop *stop);
  * positions the call has asked for. At ABANDONED it alone is written, and the board and its search are as before: what is abandoned begins anew, so a caller
  * who gives numbers of positions doubles them.
  *
- * jatshegi_board_best_within counts the position at the cursor, too, for which the flag isn't looked at, and takes memory for a line of its own. OK, EMPTY,
- * NO_MEMORY, ARGUMENT, NONE, ABANDONED; the other OK, EMPTY, NONE, ABANDONED.
+ * jatshegi_board_best_within counts the position at the cursor, too, for which the flag isn't looked at, so that a limit of 0 is one of 1 there; and it takes
+ * memory for a line of its own. OK, EMPTY, NO_MEMORY, ARGUMENT, NONE, ABANDONED; the other OK, EMPTY, NONE, ABANDONED.
  */
 uint32_t jatshegi_board_best_within(const struct jatshegi_board *board, uint8_t depth, uint64_t nodes, const struct jatshegi_stop *stop,
                                     struct jatshegi_move *move, int32_t *value, uint64_t *visited);
 uint32_t jatshegi_search_slice_within(struct jatshegi_board *board, uint64_t nodes, const struct jatshegi_stop *stop, size_t *left, uint64_t *visited);
 
 /*
- * A session of the universal chess interface (UCI), driven by events. Each board has one, which knows nothing of the board. The replies are handed out,
+ * A session of the universal chess interface (UCI), driven by events. Each board has one, which knows nothing of the board. The replies are written,
  * each on a line of its own, with their length, at most JATSHEGI_MOST_REPLIES; at NO_ROOM the event has happened all the same, and the replies are lost. The first
  * event of a board takes memory for the session, and without it doesn't happen. OK, EMPTY, NO_ROOM, NO_MEMORY of the first.
  *
- * A line is read, without its line feed; there is time to search one root move more; the clock reads so many milliseconds, from any moment on.
+ * A line is read, without its line feed; there is time to search one root move more; the clock reads this number of milliseconds, from any moment on.
  */
 uint32_t jatshegi_engine_line(struct jatshegi_board *board, const char *line, size_t length, char *replies, size_t room, size_t *count);
 uint32_t jatshegi_engine_slice(struct jatshegi_board *board, char *replies, size_t room, size_t *count);
@@ -627,7 +627,7 @@ uint32_t jatshegi_board_annotate(struct jatshegi_board *board, uint8_t number);
 uint32_t jatshegi_board_clear_annotations(struct jatshegi_board *board);
 
 /*
- * Answers a line of the program's `board`, without its line feed, and hands out the answer and its length. OK, EMPTY, NO_ROOM, NO_MEMORY.
+ * Answers a line of the program's `board`, without its line feed, and writes the answer and its length. OK, EMPTY, NO_ROOM, NO_MEMORY.
  *
  * The line has been answered also where the answer is longer than the room for it. With room for JATSHEGI_MOST_ANSWER bytes that happens only to `path` and
  * `pgn`, which change nothing and may be asked again with more room. At NO_MEMORY it has not been answered, and all is as before; where there is memory for the
@@ -651,7 +651,8 @@ uint32_t jatshegi_game_read(const char *text, size_t length, char *game, size_t 
  * A repair writes some bytes of the text otherwise, by its kind; all bytes between repairs are as they were, and strict reading of what results gives the game.
  * First come those that need no reading of moves, in the order of their places, and then those that were made where reading stopped, one after another. At
  * NO_ROOM, which speaks of the game's room alone, the length, the repairs and `used` are written. At PGN_... no game could be saved, and `used` is what
- * jatshegi_game_pass has of the text.
+ * jatshegi_game_pass has of the text. NO_GAME comes also where the text is at most 1,048,576 bytes and each of them is whitespace (9 to 13 and 32), NUL (0) or
+ * ^Z (26), which is how some files end. The text is all that follows: of a part of it the answer may be another.
  */
 uint32_t jatshegi_game_salvage(const char *text, size_t length, char *game, size_t room, size_t *count, struct jatshegi_repair *repairs, size_t places,
                                size_t *repaired, size_t *used);
@@ -675,7 +676,7 @@ uint32_t jatshegi_game_pass(const char *text, size_t length, size_t *used);
  * says that nothing follows them. `used` is how many bytes to pass over next. OK, NO_MEMORY, NO_GAME, MORE, PGN_...
  *
  * At OK one game is there, whatever follows, and `used` is its length: jatshegi_game_read and jatshegi_game_report have the same game of these bytes. At PGN_...
- * no game is, whatever follows, and `used` is what jatshegi_game_pass has of the whole text. At NO_GAME all is white space, and the last. At MORE the caller
+ * no game is, whatever follows, and `used` is what jatshegi_game_pass has of the whole text. At NO_GAME all is whitespace, and the last. At MORE the caller
  * asks again with more bytes behind these; at MORE and at NO_MEMORY `used` is as it was. So games and faults are those of the whole text, however it comes.
  *
  * A call reads the bytes from their first one on, so they had better come in large pieces. Where there are more than 1,048,576, MORE says that they are white

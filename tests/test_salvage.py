@@ -3,6 +3,7 @@ accepts is written as ever, and each byte of the input is accounted for.
 
 tests/salvage.jsonl has a row for each form: its name, its bytes (as Latin-1), the movetexts that are written of it, and what is said of it."""
 import importlib
+import io
 import json
 import random
 import re
@@ -11,6 +12,7 @@ import sys
 import unittest
 
 import runs
+from test_arbiter import rows as rows_of
 from test_parallel import BAD, GAMES, games
 
 with open(f"{runs.TOP}/tests/salvage.jsonl", encoding="utf-8") as rows:
@@ -157,6 +159,37 @@ class Salvage(unittest.TestCase):
         for words in (["--letters", "KDTLS"], *(["--salvage", "--letters", wrong] for wrong in ("", "KDTL", "KDTLL", "kdtls", "KDTLSX"))):
             ended = subprocess.run([GAMES, *words], input=b"", capture_output=True, timeout=runs.MOST_SECONDS)
             self.assertEqual((ended.returncode, b"--letters" in ended.stderr), (1, True), words)
+
+    def test_the_end_of_a_file(self):
+        """White space, NUL and ^Z after the last game, at most 1,048,576 bytes, are no game; strict reading has a fault there, as ever."""
+        game = games()[0].strip().encode()
+        for end in (b"\x1a", b"\r\n\x1a", b"\n \t\v\f\0\x1a\0\n", b"\0" * 1_048_576):
+            with self.subTest(end=end[:9], length=len(end)):
+                saved = self.check(game + end)
+                self.assertEqual((len(movetexts(saved.stdout)), saved.stderr), (1, b"games 1, bytes %d, passed over 0, repaired 0\n" % len(game + end)))
+                self.assertEqual(self.check(end).stderr, b"games 0, bytes %d, passed over 0, repaired 0\n" % len(end))
+                self.assertEqual(ran(game + end).returncode, 2)
+        for end in (b"\x1a\x01", b"\x1a;", b"\n" * 1_048_576 + b"\x1a", b"\x1a\n% 1\n"):
+            with self.subTest(end=end[:9], length=len(end)):
+                self.assertEqual(self.check(game + end).stderr.splitlines()[-1].split(b",")[0], b"games 2")
+        for between in (b"\x1a", b"\r\n\0\0\x1a\r\n"):
+            saved = self.check(game + between + game + b"\x1a")
+            self.assertEqual((len(movetexts(saved.stdout)), saved.stderr.count(b"Control\n")), (2, between.count(b"\0") + 1))
+
+    def test_the_end_of_a_file_elsewhere(self):
+        """The arbiter has no row for it, and Python no game, of a text and of a file."""
+        game = games()[0].strip().encode()
+        for end in (b"\x1a", b"\r\n\0\x1a\0\n", b"\0" * 1_048_576):
+            with self.subTest(end=end[:9], length=len(end)):
+                self.assertEqual([(row["number"], row["fault"]) for row in rows_of(game + end)], [("1", "")])
+                self.assertEqual(rows_of(end), [])
+                for source in (game + end, io.BytesIO(game + end)):
+                    faults, repairs = [], []
+                    self.assertEqual(len([*jatshegi.pgn.games(source, faults.append, repairs.append)]), 1)
+                    self.assertEqual((faults, repairs), ([], []))
+                self.assertEqual([*jatshegi.pgn.games(end, faults.append, repairs.append)], [])
+                self.assertEqual(len([*jatshegi.pgn.games(game + end, faults.append)]), 1)
+                self.assertEqual([fault.place for fault in faults], [len(game) + len(end) - len(end.lstrip(b"\r\n"))])
 
     def test_a_game_that_cannot_be_saved(self):
         text = b'[FEN "8/8"]\n\n1. e4 *\n\n' + games()[0].encode()

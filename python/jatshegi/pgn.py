@@ -572,14 +572,15 @@ class _Texts:
                 saved = self._saved() if self._repaired else None
                 if saved is None:
                     raise self._passing(status, used.value)
-                return saved
-            # Only whitespace is there.
+                if saved:
+                    return saved
+            # Only whitespace is there, or the end of a file.
             if self._read is None:
                 self._at = len(self._data)
                 return None
             self._more()
 
-    # The export form of a game that strict reading refuses, where it can be saved; then its repairs are handed on.
+    # The export form of a game that strict reading refuses, where it can be saved; then its repairs are handed on. No byte, where no game is there.
     def _saved(self) -> Optional[bytes]:
         assert self._repaired is not None
         while True:
@@ -588,6 +589,8 @@ class _Texts:
             status = c.lib.jatshegi_game_salvage(*self._place(), *places)
             if status == c.NO_MEMORY:
                 raise MemoryError("no memory for a game")
+            if status == c.NO_GAME:
+                return b""
             if status not in (c.OK, c.NO_ROOM):
                 return None
             if status == c.OK and repaired.value <= len(self._repairs):

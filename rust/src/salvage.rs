@@ -145,7 +145,7 @@ pub enum Salvaged {
     Game(Vec<u8>, usize, Vec<Repair>),
     /// A game that can't be saved: what is wrong, and how many bytes are given up with it.
     Lost(GameFault, usize),
-    /// White space alone.
+    /// Whitespace alone, or the end of a file: at most 1,048,576 bytes of whitespace (9 to 13 and 32), NUL and `^Z` (26).
     End,
 }
 
@@ -159,6 +159,7 @@ pub enum Salvaged {
 /// assert_eq!(used, 23);
 /// let kinds: Vec<_> = repairs.iter().map(|repair| repair.kind).collect();
 /// assert_eq!(kinds, [RepairKind::Hyphen, RepairKind::Castling, RepairKind::Illegal]);
+/// assert_eq!(salvage_game(b"\r\n\x1a")?, Salvaged::End);
 /// # Ok::<(), jatshegi::Error>(())
 /// ```
 ///

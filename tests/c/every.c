@@ -505,6 +505,8 @@ static void saves(void) {
     CHECK(used == strlen(lost) - strlen("[White \"b\"]"));
     used = 7;
     CHECK(jatshegi_game_salvage(" \n", 2, game, sizeof game, &count, repairs, 3, &repaired, &used) == JATSHEGI_NO_GAME && count == 7 && repaired == 7 && used == 7);
+    CHECK(jatshegi_game_salvage("\r\n\0\032", 4, game, sizeof game, &count, repairs, 3, &repaired, &used) == JATSHEGI_NO_GAME && count == 7 && repaired == 7 && used == 7);
+    CHECK(jatshegi_game_salvage("\0 1. e4 *", 9, game, sizeof game, &count, repairs, 3, &repaired, &used) == JATSHEGI_OK && repaired == 1 && used == 9);
     CHECK(strcmp(jatshegi_repair_text(JATSHEGI_REPAIR_TAG_QUOTES), "TagQuotes") == 0 && strcmp(jatshegi_repair_text(JATSHEGI_REPAIR_VARIATION), "Variation") == 0);
     CHECK(jatshegi_repair_text(JATSHEGI_REPAIR_VARIATION + 1) == NULL);
 }

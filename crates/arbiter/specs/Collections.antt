@@ -1,13 +1,14 @@
 -- Which rows a run over a collection of games writes. How a collection is gone over is in `chess_collection/specs/Handling.antt`.
 --   Entry        a game, or a fault where no game can be read, and the game that its text is repaired to, if there is one, and what its tags say
 --   IsMended     the game that a text is repaired to, if there is one
---   Explains     what bytes begin with: an entry that has so many of them
+--   Explains     what bytes begin with: an entry that has so many of them; the end of a file (`is_end` of chess_salvage) is no bad game
 --   row_of       the row of an entry with its number and place, where it is asked for
 --   IsRow        so many bytes at the start of those that are looked at are an entry, and this is its row
 --   IsRowIn      so it is of a text with letters of men as the standard has them, where letters of a language are given
 --   header_text  the names of the columns, where the format has a row of them
---   JudgeEnds    how a run ends: the names of the columns are written, and then the rows, as the end of going over a collection says
-use Rattle.std.specs.Prelude.{◌≡◌, ◌≢◌, ◌≤◌, ℕ, Bool, not, ◌&&◌, if◌then◌else◌, List, [], take, Option, Some, None, Result}
+--   JudgeEnds    how a run ends: the names of the columns are written, and then the rows, as the end of going over a collection says; what is left is white
+--                or the end of a file (`ComesLast` of chess_salvage)
+use Rattle.std.specs.Prelude.{◌≡◌, ◌≢◌, ◌≤◌, ℕ, Bool, false, not, ◌&&◌, if◌then◌else◌, List, [], take, Option, Some, None, Result}
 use Rattle.chess_collection.specs.Handling.{GoesOver}
 use Rattle.chess_collection.specs.Headings.{Heading, IsHeadingOf}
 use Rattle.chess_collection.specs.Windows.{Window}
@@ -18,10 +19,11 @@ use Rattle.chess_items.specs.Abandoned.{GivesUp}
 use Rattle.chess_items.specs.declared.fault.FaultKind.TheVariants as lacks
 use Rattle.chess_items.specs.declared.fault.PgnFault.{PgnFault}
 use Rattle.chess_pgn.specs.Games.{Game}
-use Rattle.chess_pgn.specs.Reading.{BeginsWithGame, HasNoGame, IsWhite}
+use Rattle.chess_pgn.specs.Reading.{BeginsWithGame, HasNoGame}
 use Rattle.chess_command_line.specs.declared.collection.Failure.{Failure}
 use Rattle.chess_repair.specs.Letters.{IsInLetters}
 use Rattle.chess_repair.specs.declared.repair.Repair.{Repair}
+use Rattle.chess_salvage.specs.Endings.{ComesLast, is_end}
 use Rattle.chess_salvage.specs.Salvaging.{IsSalvaged}
 use Rattle.arbiter.specs.declared.judge.Asked.{Asked}
 use Rattle.arbiter.specs.declared.row.Format.{Format}
@@ -43,7 +45,7 @@ IsMended text mended = (repairs cuts : List Repair) × (used : ℕ) × IsSalvage
 -- a bad game has all bytes up to where its text says that the next one begins; its fault is placed by the bytes of the collection before it
 abbrev pub Explains : ℕ → List ℕ → ℕ → Entry → Type 0
 Explains offset bytes used (Found game heading unmarked) = BeginsWithGame bytes game used × IsHeadingOf bytes heading × (unmarked ≡ is_unmarked (take used bytes) game.outcome)
-Explains offset bytes used (Bad fault mended heading roster) = (offset ≤ fault.place) × (fault.kind ≢ lacks.Memory) × HasNoGame bytes × GivesUp bytes used × IsMended bytes mended × IsHeadingOf bytes heading × IsRosterOf bytes roster
+Explains offset bytes used (Bad fault mended heading roster) = (offset ≤ fault.place) × (fault.kind ≢ lacks.Memory) × HasNoGame bytes × (is_end bytes ≡ false) × GivesUp bytes used × IsMended bytes mended × IsHeadingOf bytes heading × IsRosterOf bytes roster
 
 -- what becomes of its bytes
 abbrev pub fate_of : Entry → Fate
@@ -72,4 +74,4 @@ header_text Jsonl = []
 
 abbrev pub JudgeEnds : {R W : Type 0} → (R → List ℕ → R → Type 0) → (R → Bool) → (R → Type 0) → (W → List ℕ → W → Type 0) → (W → Bool) → Asked → ℕ → R → Window R → W → W → Result Totals Failure → Type 0
 JudgeEnds gives failed ended takes write_failed asked reads source new old w result =
-    GoesOver gives failed (λ number offset bytes used fate text. IsRowIn asked number offset bytes used fate text) ended reads (λ bytes. IsWhite bytes) takes write_failed (header_text asked.format) source new old w result
+    GoesOver gives failed (λ number offset bytes used fate text. IsRowIn asked number offset bytes used fate text) ended reads (λ bytes. ComesLast bytes) takes write_failed (header_text asked.format) source new old w result

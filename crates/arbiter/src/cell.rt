@@ -1,3 +1,5 @@
+//! What a row of a report has in a column: a number, a text, a truth, or nothing.
+
 ghost use Rattle.std.specs.Prelude.{◌≡◌, option_map};
 ghost use Rattle.arbiter.specs.Cells.{Number, Text, Truth, Nothing, cell_of, maybe};
 

@@ -1,3 +1,5 @@
+//! The columns of a report: their names, and the cells of a game that was read and of one that can't be.
+
 ghost use Rattle.std.specs.Prelude.{◌≡◌, ◌++◌, codes, map, option_map, IfOk, Some};
 ghost use Rattle.chess_types.specs.board.Outcome.{status_text};
 ghost use Rattle.chess_fen.specs.Writing.{written};

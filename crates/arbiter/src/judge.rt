@@ -1,13 +1,14 @@
 //! A row for each game of a collection.
 
-ghost use Rattle.std.specs.Prelude.{◌≡◌, ◌≤◌, ◌≢◌, [], None, Some, IfErr, IfOk, IfSome, length};
+ghost use Rattle.std.specs.Prelude.{◌≡◌, ◌≤◌, ◌≢◌, true, false, [], None, Some, IfErr, IfOk, IfSome, length};
 ghost use Rattle.chess_collection.specs.Headings.{IsHeadingOf};
 ghost use Rattle.chess_collection.specs.Windows.{KnowsItsEnd};
 ghost use Rattle.chess_items.specs.declared.fault.FaultKind.TheVariants.{Memory};
 ghost use Rattle.chess_command_line.specs.declared.collection.Failure.TheVariants as by;
-ghost use Rattle.chess_pgn.specs.Reading.{BeginsWithGame, HasNoGame, IsWhite};
+ghost use Rattle.chess_pgn.specs.Reading.{BeginsWithGame, HasNoGame};
 ghost use Rattle.chess_pgn.specs.steps.GameCode.{game_of};
 ghost use Rattle.chess_repair.specs.Letters.{IsInLetters};
+ghost use Rattle.chess_salvage.specs.Endings.{ComesLast, is_end};
 ghost use Rattle.chess_salvage.specs.Salvaging.{found_in};
 ghost use Rattle.arbiter.specs.Collections.{Bad, Found, IsRow, IsRowIn, JudgeEnds, header_text, row_of};
 ghost use Rattle.arbiter.specs.Cells.{row_text};
@@ -25,7 +26,7 @@ use chess_items::given_up;
 use chess_pgn::{FaultKind, Game, PgnFault, read_game};
 use chess_repair::{Letters, respell};
 use chess_report::Report;
-use chess_salvage::salvage;
+use chess_salvage::{is_end, salvage};
 use std::alloc::{AllocError, Allocator, Global};
 
 /// Which rows are written, and how.
@@ -190,6 +191,7 @@ impl RowMaker {
     // What becomes of a game that can't be read.
     fn bad(&self, place: Place, bytes: &[u8], fault: PgnFault) -> Result<Handled, AllocError>
         requires none { HasNoGame bytes.now }
+        requires goes_on { is_end bytes.now ≡ false }
         requires kind { fault.kind ≢ Memory }
         requires place { place.offset ≤ fault.place }
         ensures fits { IfOk result (λ h. h.used ≤ length bytes.now) }
@@ -207,11 +209,35 @@ impl RowMaker {
         })
     }
 
+    // The same, and of the end of a file, which is no game.
+    fn unread(
+        &self,
+        place: Place,
+        bytes: &[u8],
+        fault: PgnFault,
+    ) -> Result<Option<Handled>, Failure>
+        requires none { HasNoGame bytes.now }
+        requires kind { fault.kind ≢ Memory }
+        requires place { place.offset ≤ fault.place }
+        ensures fits { IfOk result (λ found. IfSome found (λ h. h.used ≤ length bytes.now)) }
+        ensures row { IfOk result (λ found. IfSome found (λ h. IsRow self.now.asked place.number place.offset bytes.now h.used h.fate h.text.items)) }
+        ensures last { IfOk result (λ found. found ≡ None → is_end bytes.now ≡ true) }
+        ensures memory { IfErr result (λ failure. failure ≡ by.Memory) }
+    {
+        if is_end(bytes) {
+            return Ok(None);
+        }
+        match self.bad(place, bytes, fault) {
+            Ok(handled) => Ok(Some(handled)),
+            Err(_) => Err(Failure::Memory),
+        }
+    }
+
     // What becomes of the game that a text begins with, in the standard's letters.
     fn spelt(&self, place: Place, bytes: &[u8]) -> Result<Option<Handled>, Failure>
         ensures fits { IfOk result (λ found. IfSome found (λ h. h.used ≤ length bytes.now)) }
         ensures row { IfOk result (λ found. IfSome found (λ h. IsRow self.now.asked place.number place.offset bytes.now h.used h.fate h.text.items)) }
-        ensures white { IfOk result (λ found. found ≡ None → IsWhite bytes.now) }
+        ensures last { IfOk result (λ found. found ≡ None → ComesLast bytes.now) }
         ensures memory { IfErr result (λ failure. failure ≡ by.Memory) }
     {
         match read_game(&self.alloc, bytes) {
@@ -222,22 +248,19 @@ impl RowMaker {
             },
             Err(fault) => match fault.kind {
                 FaultKind::Memory => Err(Failure::Memory),
-                _ => match self.bad(place, bytes, placed(fault, place.offset)) {
-                    Ok(handled) => Ok(Some(handled)),
-                    Err(_) => Err(Failure::Memory),
-                },
+                _ => self.unread(place, bytes, placed(fault, place.offset)),
             },
         }
     }
 }
 
 impl GameHandler for RowMaker {
-    ghost use Rattle.chess_pgn.specs.Reading.{IsWhite};
+    ghost use Rattle.chess_salvage.specs.Endings.{ComesLast};
     ghost use Rattle.arbiter.specs.Collections.{IsRowIn};
 
     ghost handles = { λ maker number offset bytes used fate text. IsRowIn maker.asked number offset bytes used fate text };
 
-    ghost white = { λ bytes. IsWhite bytes };
+    ghost white = { λ bytes. ComesLast bytes };
 
     #[tactic(auto, using(crate::proofs::RowLemmas::row_in))]
     fn handle(&self, place: Place, bytes: &[u8]) -> Result<Option<Handled>, Failure> {
@@ -255,7 +278,7 @@ impl GameHandler for RowMaker {
 
 /// Writes a row for each game of a collection: what the Laws say of it; of one that can't be read its fault, and what is said of the game that its text is
 /// repaired to, or of what its tags say where there is none; where letters of a language are given, each game is read with letters of men as the standard has
-/// them. Returns how many there were, and how many of them could not be read.
+/// them. At most 1,048,576 bytes of whitespace, NUL and ^Z after the last game are no game. Returns how many there were, and how many of them could not be read.
 ///
 /// # Errors
 ///

@@ -1,3 +1,5 @@
+//! How the cells of a row are written: as comma-separated values (RFC 4180), or as a JSON object on a line.
+
 ghost use Rattle.std.specs.Prelude.{◌≡◌, ◌<◌, ◌++◌, ◌∷◌, [], flat_map, length, map, string_bytes, IfOk, OnOk};
 ghost use Rattle.std.specs.Char.{encode_utf8};
 ghost use Rattle.csv.specs.Writing as csv;

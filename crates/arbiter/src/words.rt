@@ -1,3 +1,5 @@
+//! What the words after the program's name ask `arbiter` to do.
+
 use crate::judge::Asked;
 use crate::row::Format;
 use chess_command_line::{Refused, VERSION, flag, option, progress_flag, why_refused};

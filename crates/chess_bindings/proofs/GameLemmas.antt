@@ -12,13 +12,13 @@ use Rattle.chess_pgn.specs.Reading.{HasNoGame, BeginsWithGame, IsWhite}
 use Rattle.chess_pgn.specs.Written.{game_text}
 use Rattle.chess_report.specs.MainLine.{main}
 use Rattle.chess_bindings.specs.Codes.{fault_code}
-use Rattle.chess_bindings.specs.Games.{IsBad, IsGame, IsNone, IsPassed, is_of_text}
+use Rattle.chess_bindings.specs.Games.{IsBad, IsGameHanded, IsNone, IsPassed, is_of_text}
 use Rattle.chess_bindings.specs.Handed.{IsHanded}
 use Rattle.chess_bindings.specs.declared.reports.GameReport.{GameReport}
 use Rattle.chess_bindings.specs.Reports.{IsReport, report_code}
 
 pub game_told : (text : List ℕ) → (game : Game) → (code count count' used used' : ℕ) → (room room' : List ℕ)
-    → BeginsWithGame text game used' → IsHanded (game_text game) code count' room room' → IsGame text code count count' used used' room room'
+    → BeginsWithGame text game used' → IsHanded (game_text game) code count' room room' → IsGameHanded text code count count' used used' room room'
 game_told text game code count count' used used' room room' at handed = inl (game, at, handed)
 
 pub report_told : (text : List ℕ) → (game : Game) → (code count count' used used' : ℕ) → (report report' : GameReport) → (room room' : List ℕ)

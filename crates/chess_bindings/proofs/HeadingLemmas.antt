@@ -3,7 +3,7 @@ use Rattle.std.proofs.Common.{◌≡◌, ℕ, zero, suc, ◌-◌, ◌≤◌, Lis
 use Rattle.std.specs.Prelude.{Vec, slice_get}
 use Rattle.chess_pgn.specs.Games.{Tags}
 use Rattle.chess_pgn.specs.steps.OtherCode.{shown}
-use Rattle.chess_bindings.specs.Headings.{names}
+use Rattle.chess_bindings.specs.Headings.{tag_names}
 
 -- the one after so many
 pub name_after : {A : Type 0} → (done : List (Vec ℕ A × Vec ℕ A)) → (entry : Vec ℕ A × Vec ℕ A) → (rest : List (Vec ℕ A × Vec ℕ A))
@@ -18,7 +18,7 @@ no_name (first ∷ done) zero le = absurd (omega arith)
 no_name (first ∷ done) (suc place) le = no_name done place (omega arith)
 
 -- after the six that each game has come the others
-pub name_of_others : (tags : Tags) → (place : ℕ) → 6 ≤ place → slice_get (map (λ tag. tag.0) tags.others) (place - 6) ≡ slice_get (names tags) place
+pub name_of_others : (tags : Tags) → (place : ℕ) → 6 ≤ place → slice_get (map (λ tag. tag.0) tags.others) (place - 6) ≡ slice_get (tag_names tags) place
 name_of_others tags zero le = absurd (omega arith)
 name_of_others tags (suc zero) le = absurd (omega arith)
 name_of_others tags (suc (suc zero)) le = absurd (omega arith)

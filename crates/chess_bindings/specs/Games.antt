@@ -1,10 +1,10 @@
 -- Games of a text, as a caller gets them.
---   is_of_text   a fault of the text, and not want of memory
---   IsBad        no game is at the start of the text, and it isn't white alone
---   IsFaulty     of a bad game: the status of a fault of the text, with a place in it, at its end at most; which fault, and which place, has no definition
---   IsNone       only whitespace follows; or a bad game; or there is no memory. But for a bad game's place the number is as it was
---   IsGame       of a text: the game at its start is handed out in export form, with the number of the bytes that it takes; or there is none
---   IsPassed     of a text: the bytes of the game at its start; or all, which are white; or those that are given up with a bad game (`GivesUp` of
+--   is_of_text    a fault of the text, and not want of memory
+--   IsBad         no game is at the start of the text, and it isn't white alone
+--   IsFaulty      of a bad game: the status of a fault of the text, with a place in it, at its end at most; which fault, and which place, has no definition
+--   IsNone        only whitespace follows; or a bad game; or there is no memory. But for a bad game's place the number is as it was
+--   IsGameHanded  of a text: the game at its start is handed out in export form, with the number of the bytes that it takes; or there is none
+--   IsPassed      of a text: the bytes of the game at its start; or all, which are white; or those that are given up with a bad game (`GivesUp` of
 --                chess_items); or there is no memory
 use Rattle.std.specs.Prelude.{◌≡◌, ◌⊎◌, ◌≤◌, ℕ, Bool, true, false, List, length}
 use Rattle.chess_items.specs.Abandoned.{GivesUp}
@@ -39,8 +39,8 @@ abbrev pub IsFound : List ℕ → (code count' used' : ℕ) → (room room' : Li
 IsFound text code count' used' room room' = (game : Game) × BeginsWithGame text game used' × IsHanded (game_text game) code count' room room'
 
 -- what is answered of the game at the start of a text
-abbrev pub IsGame : List ℕ → (code count count' used used' : ℕ) → (room room' : List ℕ) → Type 0
-IsGame text code count count' used used' room room' =
+abbrev pub IsGameHanded : List ℕ → (code count count' used used' : ℕ) → (room room' : List ℕ) → Type 0
+IsGameHanded text code count count' used used' room room' =
     IsFound text code count' used' room room' ⊎ ((count' ≡ count) × (room' ≡ room) × IsNone text code used used')
 
 -- how many bytes to pass over

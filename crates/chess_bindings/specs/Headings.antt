@@ -1,7 +1,7 @@
 -- What a game's text says beside its moves.
 --   HeadingParts     the tags, and how the game ended (PGN 8.1, 8.2.6)
 --   nothing_known    of a game of which nothing is known
---   names            the names of the tags: of the six that each game has besides Result, then of the others in ASCII order (PGN 8.1.1, 3.2)
+--   tag_names        the names of the tags: of the six that each game has besides Result, then of the others in ASCII order (PGN 8.1.1, 3.2)
 --   outcome_in       how a game ended, by its number
 --   tag_code         the status of a tag that is set, or refused
 --   HandedIfThere    a text is handed out, or there is none
@@ -31,8 +31,8 @@ abbrev pub nothing_known : HeadingParts
 nothing_known = record { tags = unknown; outcome = Unfinished }
 
 -- the names of the tags, in the order of the export form
-abbrev pub names : Tags → List (List ℕ)
-names tags = codes "Event" ∷ codes "Site" ∷ codes "Date" ∷ codes "Round" ∷ codes "White" ∷ codes "Black" ∷ map (λ tag. tag.0) tags.others
+abbrev pub tag_names : Tags → List (List ℕ)
+tag_names tags = codes "Event" ∷ codes "Site" ∷ codes "Date" ∷ codes "Round" ∷ codes "White" ∷ codes "Black" ∷ map (λ tag. tag.0) tags.others
 
 -- the marker of a number
 abbrev pub outcome_in : ℕ → Option Outcome

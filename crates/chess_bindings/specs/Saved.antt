@@ -5,18 +5,19 @@
 --   ListsAll       the repairs of a text, and then what was cut off
 --   IsListed        values that are put first in a room, as many as it has places for, and how many they are
 --   IsSaved         a bad game: some first bytes of the text are salvaged (`IsSalvaged` of chess_salvage) to a game that is handed out, the repairs with it
---   IsLost          no game is handed out: only whitespace follows; or a bad game, with the bytes that are given up with it; or there is no memory
+--   IsLost          no game is handed out: only whitespace follows, or the end of a file (`ComesLast` of chess_salvage); or a bad game, which is no such end, with
+--                   the bytes that are given up with it; or there is no memory
 --   AreAsBefore     nothing but the number of those bytes is written
 --   IsReadOrSaved   what is answered of the game at the start of a text
-use Rattle.std.specs.Prelude.{◌≡◌, ◌⊎◌, ◌<◌, ℕ, true, List, ◌++◌, drop, length, map, take, Some}
+use Rattle.std.specs.Prelude.{◌≡◌, ◌⊎◌, ◌<◌, ℕ, true, false, List, ◌++◌, drop, length, map, take, Some}
 use Rattle.chess_items.specs.Abandoned.{GivesUp}
 use Rattle.chess_items.specs.declared.fault.FaultKind.{FaultKind}
 use Rattle.chess_pgn.specs.Games.{Game}
-use Rattle.chess_pgn.specs.Reading.{IsWhite}
 use Rattle.chess_pgn.specs.Written.{game_text}
 use Rattle.chess_repair.specs.declared.repair.Repair.{Repair}
 use Rattle.chess_repair.specs.declared.repair.RepairKind.{RepairKind}
 use Rattle.chess_repair.specs.declared.repair.RepairKind.TheVariants as k
+use Rattle.chess_salvage.specs.Endings.{ComesLast, is_end}
 use Rattle.chess_salvage.specs.Salvaging.{IsSalvaged}
 use Rattle.chess_bindings.specs.Codes.{fault_code, no_game, no_memory}
 use Rattle.chess_bindings.specs.Games.{IsBad, IsFound, is_of_text}
@@ -96,8 +97,8 @@ pub record IsSaved (text : List ℕ) (code count' used' listed' : ℕ) (room roo
 -- no game is handed out
 abbrev pub IsLost : List ℕ → (code used used' : ℕ) → Type 0
 IsLost text code used used' =
-    ((code ≡ no_game) × (used' ≡ used) × IsWhite text)
-    ⊎ (((kind : FaultKind) × (is_of_text kind ≡ true) × (code ≡ fault_code kind) × IsBad text × GivesUp text used')
+    ((code ≡ no_game) × (used' ≡ used) × ComesLast text)
+    ⊎ (((kind : FaultKind) × (is_of_text kind ≡ true) × (code ≡ fault_code kind) × IsBad text × (is_end text ≡ false) × GivesUp text used')
     ⊎ ((code ≡ no_memory) × (used' ≡ used)))
 
 -- the rest of the answer
@@ -116,5 +117,5 @@ AreAsBefore count count' used used' listed listed' room room' reports reports' =
 abbrev pub IsReadOrSaved : List ℕ → (code count count' used used' listed listed' : ℕ) → (room room' : List ℕ) → (reports reports' : List RepairReport) → Type 0
 IsReadOrSaved text code count count' used used' listed listed' room room' reports reports' =
     (IsFound text code count' used' room room' × (listed' ≡ 0) × (reports' ≡ reports))
-    ⊎ ((IsBad text × IsSaved text code count' used' listed' room room' reports reports')
+    ⊎ ((IsBad text × (is_end text ≡ false) × IsSaved text code count' used' listed' room room' reports reports')
     ⊎ (IsLost text code used used' × AreSame count count' listed listed' room room' reports reports'))

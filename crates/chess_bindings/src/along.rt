@@ -1,3 +1,5 @@
+//! The line of moves to a tree's cursor, made for a search of its own.
+
 ghost use Rattle.std.specs.Prelude.{◌≡◌, IfOk};
 ghost use Rattle.chess_tree.specs.GameTree.{line_to};
 

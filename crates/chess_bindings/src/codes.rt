@@ -1,3 +1,5 @@
+//! The statuses of the library's calls, and the numbers of the ways in which a game stands.
+
 ghost use Rattle.std.specs.Prelude.{◌≡◌};
 ghost use Rattle.chess_bindings.specs.Codes.{fault_code, outcome_code};
 

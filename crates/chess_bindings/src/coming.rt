@@ -1,7 +1,7 @@
 //! Bytes of a text of which more may come, as a source.
 ghost use Rattle.std.specs.Prelude.{◌≡◌, ◌≤◌, ◌<◌, ◌||◌, length, false, IfOk, is_err};
 ghost use Rattle.byte_streams.specs.Calls.{carried};
-ghost use Rattle.chess_bindings.specs.Coming.{Gives, HasEnded};
+ghost use Rattle.chess_bindings.specs.Coming.{GivesSome, HasEnded};
 
 use byte_streams::{Failed, Source};
 use std::marker::Model;
@@ -42,7 +42,7 @@ impl<'a> Coming<'a> {
 }
 
 impl<'a> Source for Coming<'a> {
-    ghost gives = { λ s bytes t. Gives s bytes t };
+    ghost gives = { λ s bytes t. GivesSome s bytes t };
 
     ghost ended = { λ s. HasEnded s };
 
@@ -50,7 +50,7 @@ impl<'a> Source for Coming<'a> {
 
     fn read(&mut self, buf: &mut [u8]) -> Result<usize, Failed>
         ensures bound { IfOk result (λ n. n ≤ length buf.new) }
-        ensures gives { Gives self.old (carried result buf.new) self.new }
+        ensures gives { GivesSome self.old (carried result buf.new) self.new }
         ensures ended { IfOk result (λ n. n ≡ 0 → 0 < length buf.new → HasEnded self.new) }
         ensures failed { self.new.failed ≡ (self.old.failed || is_err result) }
     {

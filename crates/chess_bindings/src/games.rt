@@ -2,7 +2,7 @@
 ghost use Rattle.std.specs.Prelude.{◌≡◌, ◌⊎◌};
 ghost use Rattle.chess_items.specs.declared.fault.FaultKind.TheVariants.{Memory};
 ghost use Rattle.chess_pgn.specs.Reading.{HasNoGame, IsWhite};
-ghost use Rattle.chess_bindings.specs.Games.{IsGame, IsNone, IsPassed, is_of_text};
+ghost use Rattle.chess_bindings.specs.Games.{IsGameHanded, IsNone, IsPassed, is_of_text};
 ghost use Rattle.chess_bindings.specs.Reports.{IsReport};
 
 use crate::codes::{MEMORY, NO_GAME, OK, fault_code};
@@ -46,7 +46,7 @@ pub fn game<A: Allocator>(
     count: &mut usize,
     used: &mut usize,
 ) -> u32
-    ensures { IsGame text.now result count.old count.new used.old used.new room.old room.new }
+    ensures { IsGameHanded text.now result count.old count.new used.old used.new room.old room.new }
 {
     match read_game(alloc, text) {
         Ok(Some((found, taken))) => match write_game(alloc, &found) {

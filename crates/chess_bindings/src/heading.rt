@@ -3,7 +3,7 @@ ghost use Rattle.std.specs.Prelude.{◌≡◌, Some, IfOk, OnErr, OnOk, map, opt
 ghost use Rattle.chess_pgn.specs.Games.{tag_value, unknown};
 ghost use Rattle.chess_pgn.specs.Written.{game_text};
 ghost use Rattle.chess_edit.specs.SetTags.{IsSet, IsTagAnswer, tag_answer};
-ghost use Rattle.chess_bindings.specs.Headings.{names, nothing_known};
+ghost use Rattle.chess_bindings.specs.Headings.{tag_names, nothing_known};
 
 use chess_edit::{TagFault, check_tag, clear_tag, set_tag, unknown_value};
 use chess_pgn::{Outcome, PgnFault, Tags, write_as};
@@ -105,7 +105,7 @@ impl<'a, A: Allocator> Heading<'a, A> {
 
     /// The name of the tag at that place, from 0: of the six that each game has besides Result, then of the others in ASCII order.
     pub fn name_at(&self, place: usize) -> Option<&[u8]>
-        ensures { option_map (λ name. name.now) result ≡ slice_get (names self.now.tags) place }
+        ensures { option_map (λ name. name.now) result ≡ slice_get (tag_names self.now.tags) place }
     {
         match place {
             0 => Some(b"Event"),

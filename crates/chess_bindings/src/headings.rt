@@ -3,7 +3,7 @@ ghost use Rattle.std.specs.Prelude.{◌≡◌, option_map, slice_get};
 ghost use Rattle.chess_pgn.specs.Games.{tag_value};
 ghost use Rattle.chess_pgn.specs.Written.{game_text};
 ghost use Rattle.chess_bindings.specs.Handed.{IsAnsweredBy};
-ghost use Rattle.chess_bindings.specs.Headings.{HandedIfThere, IsOutcomeSet, IsTagCleared, IsTagSet, names, outcome_in, tag_code};
+ghost use Rattle.chess_bindings.specs.Headings.{HandedIfThere, IsOutcomeSet, IsTagCleared, IsTagSet, tag_names, outcome_in, tag_code};
 
 use crate::codes::{ARGUMENT, BAD_NAME, BAD_VALUE, MEMORY, NO_SUCH, OK, OWN_TAG};
 use crate::heading::Heading;
@@ -68,7 +68,7 @@ pub fn tag_name<A: Allocator>(
     room: &mut [u8],
     count: &mut usize,
 ) -> u32
-    ensures { HandedIfThere (slice_get (names heading.now.tags) place) result count.old count.new room.old room.new }
+    ensures { HandedIfThere (slice_get (tag_names heading.now.tags) place) result count.old count.new room.old room.new }
 {
     hand_if_there(heading.name_at(place), room, count)
 }

@@ -7,7 +7,7 @@ use crate::games::is_of_text;
 use crate::texts::hand;
 use chess_items::given_up;
 use chess_pgn::{read_game, write_game};
-use chess_salvage::{Repair, RepairKind, Salvaged, salvage};
+use chess_salvage::{Repair, RepairKind, Salvaged, is_end, salvage};
 use std::alloc::{AllocError, Allocator};
 
 /// A repair of a game's text, as a caller sees it.
@@ -165,8 +165,8 @@ fn save<A: Allocator>(
 
 /// The game at the start of a text in export form, as by `game`; where strict reading refuses it, what that gives of the text after repair (`salvage` of
 /// chess_salvage), with the repairs, as many of them as there is room for, and how many bytes of the text were used: 0, and no repair where none was made. 16
-/// where only whitespace follows. Where no game can be saved, the number of the first fault of strict reading and 40, and the bytes that are given up with it.
-/// 2 where there is no memory, and nothing is written.
+/// where only whitespace follows, or at most 1,048,576 bytes of whitespace, NUL and ^Z. Where no game can be saved, the number of the first fault of strict
+/// reading and 40, and the bytes that are given up with it. 2 where there is no memory, and nothing is written.
 pub fn saved_game<A: Allocator>(
     alloc: &A,
     text: &[u8],
@@ -191,6 +191,9 @@ pub fn saved_game<A: Allocator>(
         Err(fault) => {
             if !is_of_text(fault.kind) {
                 return MEMORY;
+            }
+            if is_end(text) {
+                return NO_GAME;
             }
             match save(alloc, text, room, count, reports, listed, used) {
                 Ok(Some(code)) => code,

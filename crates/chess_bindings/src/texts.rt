@@ -1,3 +1,5 @@
+//! How a text is written to the room that the caller gives.
+
 ghost use Rattle.std.specs.Prelude.{◌++◌};
 ghost use Rattle.chess_bindings.specs.Handed.{IsHanded};
 

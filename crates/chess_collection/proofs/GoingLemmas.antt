@@ -10,7 +10,7 @@ use Rattle.chess_command_line.specs.declared.collection.Failure.TheVariants as b
 use Rattle.chess_collection.specs.declared.going.Totals.{Totals}
 use Rattle.chess_collection.specs.declared.handler.Fate.{Fate}
 use Rattle.chess_collection.specs.declared.handler.Fate.TheVariants.{Read, Lost, Left}
-use Rattle.chess_collection.specs.Handling.{GoesOver, Handles, Reaches, Stretch, Tiles, WentOver, bad_in, bad_of, most_games, passed_in, passed_of, written_of}
+use Rattle.chess_collection.specs.Handling.{GoesOver, Handles, Reaches, Stretch, Tiles, WentOver, bad_in, bad_of, most_handled, passed_in, passed_of, written_of}
 use Rattle.chess_collection.specs.steps.Going.{BreaksOff, Fills, FillsPart, FillsSome, has_broken}
 use Rattle.chess_collection.specs.Windows.{Comes, IsLookedAt, IsWide, KnowsItsEnd, NoMore, Window}
 use Rattle.chess_collection.proofs.WindowLemmas.{comes_broken, then_comes}
@@ -262,7 +262,7 @@ module _ {R W : Type 0} (gives : R → List ℕ → R → Type 0) (failed : R �
     ends_early u new page w before bytes passed bad by.Memory f breaks = (u, some_of u page w before bytes passed bad f)
 
     -- there were as many as may be
-    pub ends_many : (u : Window R) (page : List ℕ) (w : W) (before bytes passed bad : ℕ) → before ≡ most_games → State u page w before bytes passed bad → Ends u page w (Err by.Read)
+    pub ends_many : (u : Window R) (page : List ℕ) (w : W) (before bytes passed bad : ℕ) → before ≡ most_handled → State u page w before bytes passed bad → Ends u page w (Err by.Read)
     unfolding some_of
     ends_many u page w before bytes passed bad many f = (u, some_of u page w before bytes passed bad f, inr (sym f.counted ∙ many, refl))
 

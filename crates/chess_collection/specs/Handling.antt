@@ -8,7 +8,7 @@
 --   Reaches      bytes came from a source that there may be so many reads of, and stretches of them go up to what is at hand, whatever comes next
 --   HasTotals    how many stretches there are, and bytes of them and after them, and bytes that are passed over; and how many games can't be read, and count
 --   WentOver     stretches are reached, and a text and what is written of them are carried to a sink, whole and no more; no call failed
---   GoesOver     how going over a collection ends: it has ended, and nothing but white space comes after the stretches; or a read failed, or there may be no
+--   GoesOver     how going over a collection ends: it has ended, and nothing but what the handler calls white comes after the stretches; or a read failed, or there may be no
 --                more, or there were as many stretches as may be, or there was no memory, and what is written of all before is written; or there was none to
 --                begin with; or a write failed, and a prefix of it is written
 use Rattle.std.specs.Prelude.{◌≡◌, ◌⊎◌, ℕ, ◌+◌, suc, Bool, true, List, [], ◌∷◌, ◌++◌, length, Result, Ok, Err}
@@ -59,8 +59,8 @@ passed_in [] = 0
 passed_in (s ∷ ss) = passed_of s.fate (length s.bytes) + passed_in ss
 
 -- 2^57
-abbrev pub most_games : ℕ
-most_games = 144115188075855872
+abbrev pub most_handled : ℕ
+most_handled = 144115188075855872
 
 pub record HasTotals (ss : List Stretch) (rest text : List ℕ) (totals : Totals) : Type 0 where
   pub games : totals.games ≡ length ss
@@ -95,7 +95,7 @@ module _ {R : Type 0} (gives : R → List ℕ → R → Type 0) (failed : R → 
     GoesOver source new old w (Ok totals) = GoesOverAll source new old w totals
     GoesOver source new old w (Err by.Read) =
         (ss : List Stretch) × (last : Window R) × WentOver source ss last old w
-        × (NoMore gives failed last.source last.reads new.source by.Read ⊎ ((length ss ≡ most_games) × (new ≡ last)))
+        × (NoMore gives failed last.source last.reads new.source by.Read ⊎ ((length ss ≡ most_handled) × (new ≡ last)))
     GoesOver source new old w (Err by.Write) =
         (ss : List Stretch) × (last : Window R) × (text : List ℕ) × Reaches source ss text last × Broken takes write_failed old (head ++ written_of ss) w
     GoesOver source new old w (Err by.Memory) = ((ss : List Stretch) × (last : Window R) × WentOver source ss last old w) ⊎ ((new.source ≡ source) × (w ≡ old))

@@ -45,7 +45,7 @@ fn put_text<W: Sink>(
     Ok(())
 }
 
-// What becomes of the next stretch; `None` where nothing but white space is left.
+// What becomes of the next stretch; `None` where nothing but what the handler calls white is left.
 fn next_handled<'a, R: Source, A: Allocator, H: GameHandler>(
     handler: &H,
     window: &mut Window<'a, R, A>,
@@ -70,7 +70,7 @@ fn next_handled<'a, R: Source, A: Allocator, H: GameHandler>(
         if window.has_ended() {
             return Ok(None);
         }
-        // White space as far as the bytes at hand go: as many again, and once more.
+        // White as far as the bytes at hand go: as many again, and once more.
         let most = window.unread().len().saturating_mul(2);
         window.read_more()?;
         window.fill(most)?;

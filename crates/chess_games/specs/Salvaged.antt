@@ -1,15 +1,15 @@
 -- What is read of a collection whose bad games are salvaged, and written of it. How a collection is gone over is in `chess_collection/specs/Handling.antt`.
 --   Entry        a good game, one that was saved from its text, or bytes that are passed over
 --   IsSavedFrom  the game is what strict reading gives of the text that so many of those bytes were repaired to, and they have none
---   IsEntryOf    what bytes begin with: an entry that has so many of them
+--   IsEntryOf    what bytes begin with: an entry that has so many of them; the end of a file (`is_end` of chess_salvage) is neither saved nor passed over
 --   found_text   what is written of a game that was found after so many others, if it is asked for
 --   text_of      what is written of an entry after so many others, if it is of the part
 --   fate_in      what becomes of its bytes
 --   IsSavedAs    so many bytes at the start of those that are looked at are an entry, and this is written of it
 --   IsSavedIn    so it is of a text with letters of men as the standard has them, where letters of a language are given
 --   SavingEnds   how a run ends: what comes before all games is written, and then the good and the saved games of the part in order, as the end of going over a
---                collection says, with how many of the part are passed over
-use Rattle.std.specs.Prelude.{◌≡◌, ◌<◌, ℕ, ◌-◌, Bool, if◌then◌else◌, List, [], Option, Some, None, Result}
+--                collection says, with how many of the part are passed over; what is left is white or the end of a file (`ComesLast` of chess_salvage)
+use Rattle.std.specs.Prelude.{◌≡◌, ◌<◌, ℕ, ◌-◌, Bool, false, if◌then◌else◌, List, [], Option, Some, None, Result}
 use Rattle.chess_collection.specs.Handling.{GoesOver}
 use Rattle.chess_collection.specs.Windows.{Window}
 use Rattle.chess_collection.specs.declared.going.Totals.{Totals}
@@ -17,11 +17,12 @@ use Rattle.chess_collection.specs.declared.handler.Fate.{Fate}
 use Rattle.chess_collection.specs.declared.handler.Fate.TheVariants.{Read, Lost, Left}
 use Rattle.chess_items.specs.Abandoned.{GivesUp}
 use Rattle.chess_pgn.specs.Games.{Game}
-use Rattle.chess_pgn.specs.Reading.{BeginsWithGame, HasNoGame, IsWhite}
+use Rattle.chess_pgn.specs.Reading.{BeginsWithGame, HasNoGame}
 use Rattle.chess_command_line.specs.declared.collection.Failure.{Failure}
 use Rattle.chess_repair.specs.Letters.{IsInLetters}
 use Rattle.chess_repair.specs.declared.letters.Letters.{Letters}
 use Rattle.chess_repair.specs.declared.repair.Repair.{Repair}
+use Rattle.chess_salvage.specs.Endings.{ComesLast, is_end}
 use Rattle.chess_salvage.specs.Salvaging.{IsSalvaged}
 use Rattle.chess_games.specs.declared.form.Form.{Form}
 use Rattle.chess_games.specs.Forms.{head_in, text_in}
@@ -34,6 +35,7 @@ pub data Entry : Type 0 where
 
 pub record IsSavedFrom (bytes : List ℕ) (used : ℕ) (game : Game) : Type 0 where
   pub none : HasNoGame bytes
+  pub goes_on : is_end bytes ≡ false
   pub some : 0 < used
   pub repairs : List Repair
   pub cuts : List Repair
@@ -42,7 +44,7 @@ pub record IsSavedFrom (bytes : List ℕ) (used : ℕ) (game : Game) : Type 0 wh
 abbrev pub IsEntryOf : List ℕ → ℕ → Entry → Type 0
 IsEntryOf bytes used (Good game) = BeginsWithGame bytes game used
 IsEntryOf bytes used (Saved game) = IsSavedFrom bytes used game
-IsEntryOf bytes used Passed = HasNoGame bytes × GivesUp bytes used
+IsEntryOf bytes used Passed = HasNoGame bytes × (is_end bytes ≡ false) × GivesUp bytes used
 
 abbrev pub found_text : Form → ℕ → Bool → Option Game → List ℕ
 found_text form before asked (Some game) = if asked then text_in form before game else []
@@ -72,4 +74,4 @@ IsSavedIn letters form part number offset bytes used fate text = (spelt : List �
 
 abbrev pub SavingEnds : {R W : Type 0} → (R → List ℕ → R → Type 0) → (R → Bool) → (R → Type 0) → (W → List ℕ → W → Type 0) → (W → Bool) → Option Letters → Form → Part → R → W → W → Result Totals Failure → Type 0
 SavingEnds {R} gives failed ended takes write_failed letters form part source old new result =
-    (last : Window R) × GoesOver gives failed (λ number offset bytes used fate text. IsSavedIn letters form part number offset bytes used fate text) ended 1099511627776 (λ bytes. IsWhite bytes) takes write_failed (head_in form) source last old new result
+    (last : Window R) × GoesOver gives failed (λ number offset bytes used fate text. IsSavedIn letters form part number offset bytes used fate text) ended 1099511627776 (λ bytes. ComesLast bytes) takes write_failed (head_in form) source last old new result

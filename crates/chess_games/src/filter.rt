@@ -1,3 +1,5 @@
+//! The games of a reader gone over: good ones written, bad ones reported by number, place and fault.
+
 ghost use Rattle.std.specs.Prelude.{◌≡◌, ◌≤◌, ◌<◌, ◌⊎◌, if◌then◌else◌, [], true, false, None, Some, IfErr, IfOk, OnOk};
 ghost use Rattle.byte_streams.specs.Calls.{Carries};
 ghost use Rattle.chess_items.specs.Coming.{AtHand};

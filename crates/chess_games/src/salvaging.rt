@@ -1,11 +1,12 @@
 //! A collection whose bad games are salvaged: read from what their text is repaired to.
 
-ghost use Rattle.std.specs.Prelude.{◌≡◌, ◌≤◌, ◌<◌, ◌≢◌, ◌-◌, [], Some, None, IfErr, IfOk, IfSome, length};
+ghost use Rattle.std.specs.Prelude.{◌≡◌, ◌≤◌, ◌<◌, ◌≢◌, ◌-◌, true, false, [], Some, None, IfErr, IfOk, IfSome, length};
 ghost use Rattle.chess_items.specs.Abandoned.{GivesUp};
 ghost use Rattle.chess_items.specs.declared.fault.FaultKind.TheVariants.{Memory};
-ghost use Rattle.chess_pgn.specs.Reading.{HasNoGame, IsWhite};
+ghost use Rattle.chess_pgn.specs.Reading.{HasNoGame};
 ghost use Rattle.chess_pgn.specs.steps.GameCode.{game_of};
 ghost use Rattle.chess_repair.specs.Letters.{IsInLetters};
+ghost use Rattle.chess_salvage.specs.Endings.{ComesLast, is_end};
 ghost use Rattle.chess_salvage.specs.Salvaging.{IsSalvaged};
 ghost use Rattle.chess_collection.specs.Handling.{GoesOver};
 ghost use Rattle.chess_collection.specs.Windows.{KnowsItsEnd};
@@ -21,7 +22,7 @@ use chess_command_line::{Failure, Place, Progress};
 use chess_items::given_up;
 use chess_pgn::{FaultKind, Game, PgnFault, Texts, read_game};
 use chess_repair::{LETTER, respell};
-use chess_salvage::{Salvaged, salvage};
+use chess_salvage::{Salvaged, is_end, salvage};
 use std::alloc::{AllocError, Allocator, Global};
 
 // A line on the standard error with the number of a game, from 1, and what was repaired in it. A fault of the standard error is ignored.
@@ -120,6 +121,7 @@ impl<'a> Saver<'a> {
         requires first { 1 ≤ place.number }
         requires few { place.number ≤ 144115188075855872 }
         requires none { HasNoGame bytes.now }
+        requires goes_on { is_end bytes.now ≡ false }
         requires some { 0 < found.now.used }
         requires salvaged { IsSalvaged bytes.now found.now.repairs.items found.now.cuts.items found.now.used (Some (game_of game.now)) }
         ensures fits { IfOk result (λ h. h.used ≤ length bytes.now) }
@@ -154,6 +156,7 @@ impl<'a> Saver<'a> {
         requires first { 1 ≤ place.number }
         requires few { place.number ≤ 144115188075855872 }
         requires none { HasNoGame bytes.now }
+        requires goes_on { is_end bytes.now ≡ false }
         ensures fits { IfOk result (λ h. h.used ≤ length bytes.now) }
         ensures row { IfOk result (λ h. IsSavedAs self.now.wanted.now.form self.now.wanted.now.part place.number place.offset bytes.now h.used h.fate h.text.items) }
     {
@@ -171,13 +174,37 @@ impl<'a> Saver<'a> {
         })
     }
 
+    // The same, and of the end of a file, which is no game.
+    fn unread(
+        &self,
+        place: Place,
+        bytes: &[u8],
+        fault: PgnFault,
+    ) -> Result<Option<Handled>, Failure>
+        requires first { 1 ≤ place.number }
+        requires few { place.number ≤ 144115188075855872 }
+        requires none { HasNoGame bytes.now }
+        ensures fits { IfOk result (λ found. IfSome found (λ h. h.used ≤ length bytes.now)) }
+        ensures row { IfOk result (λ found. IfSome found (λ h. IsSavedAs self.now.wanted.now.form self.now.wanted.now.part place.number place.offset bytes.now h.used h.fate h.text.items)) }
+        ensures last { IfOk result (λ found. found ≡ None → is_end bytes.now ≡ true) }
+        ensures memory { IfErr result (λ failure. failure ≡ by.Memory) }
+    {
+        if is_end(bytes) {
+            return Ok(None);
+        }
+        match self.bad(place, bytes, fault) {
+            Ok(handled) => Ok(Some(handled)),
+            Err(_) => Err(Failure::Memory),
+        }
+    }
+
     // What becomes of the game that a text begins with, in the standard's letters.
     fn spelt(&self, place: Place, bytes: &[u8]) -> Result<Option<Handled>, Failure>
         requires first { 1 ≤ place.number }
         requires few { place.number ≤ 144115188075855872 }
         ensures fits { IfOk result (λ found. IfSome found (λ h. h.used ≤ length bytes.now)) }
         ensures row { IfOk result (λ found. IfSome found (λ h. IsSavedAs self.now.wanted.now.form self.now.wanted.now.part place.number place.offset bytes.now h.used h.fate h.text.items)) }
-        ensures white { IfOk result (λ found. found ≡ None → IsWhite bytes.now) }
+        ensures last { IfOk result (λ found. found ≡ None → ComesLast bytes.now) }
         ensures memory { IfErr result (λ failure. failure ≡ by.Memory) }
     {
         match read_game(self.alloc, bytes) {
@@ -193,10 +220,7 @@ impl<'a> Saver<'a> {
             },
             Err(fault) => match fault.kind {
                 FaultKind::Memory => Err(Failure::Memory),
-                _ => match self.bad(place, bytes, fault) {
-                    Ok(handled) => Ok(Some(handled)),
-                    Err(_) => Err(Failure::Memory),
-                },
+                _ => self.unread(place, bytes, fault),
             },
         }
     }
@@ -226,12 +250,12 @@ impl<'a> Saver<'a> {
 }
 
 impl GameHandler for Saver<'_> {
-    ghost use Rattle.chess_pgn.specs.Reading.{IsWhite};
+    ghost use Rattle.chess_salvage.specs.Endings.{ComesLast};
     ghost use Rattle.chess_games.specs.Salvaged.{IsSavedIn};
 
     ghost handles = { λ s number offset bytes used fate text. IsSavedIn s.wanted.now.letters s.wanted.now.form s.wanted.now.part number offset bytes used fate text };
 
-    ghost white = { λ bytes. IsWhite bytes };
+    ghost white = { λ bytes. ComesLast bytes };
 
     #[tactic(auto, using(crate::proofs::SavingLemmas::saved_in))]
     fn handle(&self, place: Place, bytes: &[u8]) -> Result<Option<Handled>, Failure> {
@@ -273,7 +297,7 @@ fn save_all<'a, R: Source, W: Sink>(
     requires sound { KnowsItsEnd R.ended window.old }
     requires fresh { window.old.bytes ≡ [] }
     requires reads { window.old.reads ≤ 1099511627776 }
-    ensures { GoesOver R.gives R.failed (λ number offset bytes used fate text. IsSavedIn wanted.now.letters wanted.now.form wanted.now.part number offset bytes used fate text) R.ended window.old.reads (λ bytes. IsWhite bytes) W.takes W.failed (head_in wanted.now.form) window.old.source window.new writer.old writer.new result }
+    ensures { GoesOver R.gives R.failed (λ number offset bytes used fate text. IsSavedIn wanted.now.letters wanted.now.form wanted.now.part number offset bytes used fate text) R.ended window.old.reads (λ bytes. ComesLast bytes) W.takes W.failed (head_in wanted.now.form) window.old.source window.new writer.old writer.new result }
 {
     let Ok(head) = wanted.form.head(alloc) else {
         return Err(Failure::Memory);
@@ -293,8 +317,8 @@ fn report_ended(rt: &HostRuntime, is_wanted: bool, ended: &Result<Totals, Failur
 
 /// Writes what comes before all games, the good games of a part of the reader's games, and of a bad game what strict reading gives of its text after
 /// repair, if it gives one. Where letters of a language are given, each text is read with letters of men as the standard has them. What was repaired is
-/// reported on the standard error by number, place and name, and a game that can't be saved by number, place and fault. Returns how many of those there were
-/// in the part, and how much there was.
+/// reported on the standard error by number, place and name, and a game that can't be saved by number, place and fault. At most 1,048,576 bytes of whitespace,
+/// NUL and ^Z after the last game are no game. Returns how many games of the part can't be saved, and how much there was.
 ///
 /// # Errors
 ///

@@ -1,3 +1,5 @@
+//! What the words after the program's name ask `games` to do.
+
 use crate::filter::Wanted;
 use crate::form::Form;
 use crate::part::{Part, positive};

@@ -49,16 +49,20 @@ export const reportOf = (bytes) => {
   return reported(found);
 };
 
-// The game at the start of a text in the memory, saved where it can be: `{bytes, used, repairs}`; null where it can't.
+// The game at the start of a text in the memory, saved where it can be: `{bytes, used, repairs}`; `{end: true}` where none comes any more, null where it can't.
 const savedAt = (at, length) => {
   const { status, used, repairs } = read((session) => session.salvage(at, length));
+  if (status === NONE) return { end: true };
   if (status > FAULTS) return null;
   if (status !== OK) throw strange('jatshegi_game_salvage', status);
   return { bytes: theMemory().handed().slice(), used, repairs: repairs.map(({ kind, ...more }) => ({ name: REPAIRS[kind], ...more })) };
 };
 
-/** The game at the start of a text that isn't white, saved where it can be: `{bytes, used, repairs}`, its export form with what was repaired; null where it can't. */
-export const salvaged = (bytes) => savedAt(...theMemory().put(bytes).map(Number));
+/** The game at the start of a text, saved where it can be: `{bytes, used, repairs}`, its export form with what was repaired; null where there is none. */
+export const salvaged = (bytes) => {
+  const saved = savedAt(...theMemory().put(bytes).map(Number));
+  return saved?.end ? null : saved;
+};
 
 /** A game that was read. */
 export class Game {
@@ -224,6 +228,10 @@ class Reader {
     }
     if (found.status <= FAULTS) throw strange('a game', found.status);
     const saved = this.saves ? savedAt(at, length) : null;
+    if (saved?.end) {
+      this.#pass(length);
+      return saved;
+    }
     if (saved) return this.#game(new Game(saved.bytes, this.count, byte, saved.used), saved.repairs);
     const { used } = read((session) => session.game(at, length));
     const fault = faultOf(found.status, placeIn(theMemory().bytes.subarray(at, at + length), used, this.passed));

@@ -291,6 +291,12 @@ test('games that are saved', async () => {
   for await (const it of readGames(text.split(''), options)) came.push(it.moves().length);
   assert.deepEqual([came, faults, saved[1]], [[1, 2], ['Fen', 'Fen'], saved[0]]);
   assert.throws(() => [...games(text)], ChessError);
+  for (const end of ['\x1a', '\r\n\0\x1a\0', '\0'.repeat(1_048_576)]) {
+    const found = [];
+    for await (const it of readGames([`1. e4 *${end}`], options)) found.push(it.moves().length);
+    assert.deepEqual([[...games(`1. e4 *${end}`, options)].length, found, [...games(end, options)], faults.length, saved.length], [1, [1], [], 2, 2]);
+  }
+  assert.throws(() => [...games('1. e4 *\x1a')], ChessError);
 });
 
 test('games of a stream', async () => {

@@ -8,7 +8,7 @@ use Rattle.chess_loop.specs.steps.Sending.{Sent}
 use Rattle.chess_command_line.specs.declared.collection.Failure.{Failure}
 use Rattle.chess_command_line.specs.declared.collection.Failure.TheVariants as by
 use Rattle.chess_collection.specs.declared.going.Totals.{Totals}
-use Rattle.chess_collection.specs.Handling.{Handles, HasTotals, Reaches, Stretch, most_games, written_of}
+use Rattle.chess_collection.specs.Handling.{Handles, HasTotals, Reaches, Stretch, most_handled, written_of}
 use Rattle.chess_collection.specs.Windows.{NoMore, Window}
 
 module _ {R : Type 0} (gives : R → List ℕ → R → Type 0) (failed : R → Bool) where
@@ -46,7 +46,7 @@ module _ {R : Type 0} (gives : R → List ℕ → R → Type 0) (failed : R → 
       abbrev pub Fills : Window R → List ℕ → W → Window R → List ℕ → W → Result Totals Failure → Type 0
       Fills old page w new page1 w1 (Ok totals) = FillsAll old new page w page1 w1 totals
       Fills old page w new page1 w1 (Err by.Read) =
-          (last : Window R) × (some : FillsSome old last page w page1 w1) × (NoMore gives failed last.source last.reads new.source by.Read ⊎ ((length some.ss ≡ most_games) × (new ≡ last)))
+          (last : Window R) × (some : FillsSome old last page w page1 w1) × (NoMore gives failed last.source last.reads new.source by.Read ⊎ ((length some.ss ≡ most_handled) × (new ≡ last)))
       Fills old page w new page1 w1 (Err by.Write) = (last : Window R) × FillsPart old last page w w1
       Fills old page w new page1 w1 (Err by.Memory) = (last : Window R) × FillsSome old last page w page1 w1
 

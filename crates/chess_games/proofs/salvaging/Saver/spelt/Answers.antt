@@ -12,5 +12,5 @@ returns-in-Ok-clause-row c =
     (Good (game_of c.in-Ok-Some.game), begins, refl, c.in-Ok.ensures)
 
 -- another
-pub bad-requires : goal.bad-requires
-bad-requires c = record { first = c.requires.first; few = c.requires.few; none = fault_found c.args.bytes.now c.in-Err.fault c.in_default.not-Memory c.in-Err.ensures.fault }
+pub unread-requires : goal.unread-requires
+unread-requires c = record { first = c.requires.first; few = c.requires.few; none = fault_found c.args.bytes.now c.in-Err.fault c.in_default.not-Memory c.in-Err.ensures.fault }
