@@ -1,3 +1,5 @@
+//! The law of what bytes are written to.
+
 ghost use Rattle.std.specs.Prelude.{◌≡◌, ℕ, ◌≤◌, Bool, ◌||◌, List, length, IfOk};
 ghost use Rattle.byte_streams.specs.Calls.{carried, takes_none};
 

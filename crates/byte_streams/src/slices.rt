@@ -1,3 +1,5 @@
+//! A source over bytes in memory and a sink into them, whose calls can be made to fail.
+
 ghost use Rattle.std.specs.Prelude.{◌≡◌, ◌<◌, ◌≤◌, ◌-◌, ◌||◌, length, take, drop, false, [], ◌++◌, None, Some, IfOk, is_err};
 ghost use Rattle.byte_streams.specs.Calls.{carried, takes_none};
 ghost use Rattle.byte_streams.specs.Lent.{is_due, one_less, given, refusal_due, one_write_less, is_failing, accepted};

@@ -1,3 +1,5 @@
+//! The law of what bytes are read from, and the failure of a call.
+
 ghost use Rattle.std.specs.Prelude.{◌≡◌, ℕ, ◌<◌, ◌≤◌, Bool, ◌||◌, List, length, IfOk, is_err};
 ghost use Rattle.byte_streams.specs.Calls.{carried};
 

@@ -1,3 +1,5 @@
+//! A source over std's readers and a sink over std's writers, which try again what was interrupted.
+
 ghost use Rattle.std.specs.Prelude.{◌≡◌, false};
 ghost use Rattle.std.specs.Io.KnownBytes.{Appends, Consumes, IsAtEnd};
 

@@ -1,3 +1,5 @@
+//! Bytes cut into words, which are separated by bytes of a given list.
+
 ghost use Rattle.std.specs.Prelude.{◌≡◌, ◌≤◌, ◌∷◌, [], length, take, drop, IfSome, IfNone};
 ghost use Rattle.byte_streams.specs.Words.{is_gap, words, skip_gaps, first_word, after_word, without_last_gaps, trimmed};
 

@@ -1,3 +1,5 @@
+//! The machine's clock, by which the engine keeps time.
+
 use chess_cli::Clock;
 use std::time::Instant;
 

@@ -1,3 +1,5 @@
+//! Which command the words after the program's name ask for: `board`, `uci` or `pgn`.
+
 use chess_command_line::{Refused, VERSION, why_refused};
 use clap::{Arg, Command, Error};
 use std::alloc::Global;

@@ -7,7 +7,7 @@ use Rattle.chess_types.specs.board.Squares.{squares}
 use Rattle.chess_types.specs.board.Attack.{distance}
 use Rattle.chess_attack.specs.declared.change.Change.{Change}
 use Rattle.chess_attack.specs.declared.change.Change.TheVariants.{Raise, Lower}
-use Rattle.chess_attack.specs.KeptCounts.{KeptCounts, count_in, changed, Worked}
+use Rattle.chess_attack.specs.KeptCounts.{KeptCounts, count_in, change_between, Worked}
 use Rattle.chess_attack.specs.steps.Marks.{Moved, Moves, one_at}
 use Rattle.chess_types.proofs.Sums.{bit, total, total-agree, total-one, total-le, total-add, total-zero, sum_by-range}
 
@@ -15,15 +15,15 @@ use Rattle.chess_types.proofs.Sums.{bit, total, total-agree, total-one, total-le
 abbrev pub gap_at : KeptCounts → KeptCounts → ℕ → ℕ
 gap_at old new s = distance (count_in old White s) (count_in new White s) + distance (count_in old Black s) (count_in new Black s)
 
-pub changed_is_total : (old new : KeptCounts) → changed old new ≡ total (gap_at old new) 0 64
-unfolding changed squares
+pub changed_is_total : (old new : KeptCounts) → change_between old new ≡ total (gap_at old new) 0 64
+unfolding change_between squares
 changed_is_total old new = sum_by-range (gap_at old new) 0 64
 
-changed_self : (t : KeptCounts) → changed t t ≡ 0
+changed_self : (t : KeptCounts) → change_between t t ≡ 0
 changed_self t = changed_is_total t t ∙ total-zero (gap_at t t) 0 64 (λ x. omega arith)
 
 -- what changed in two pieces
-changed_trans : (a b c : KeptCounts) → changed a c ≤ changed a b + changed b c
+changed_trans : (a b c : KeptCounts) → change_between a c ≤ change_between a b + change_between b c
 changed_trans a b c =
     let both : total (gap_at a c) 0 64 ≤ total (λ s. gap_at a b s + gap_at b c s) 0 64 =
     total-le (gap_at a c) (λ s. gap_at a b s + gap_at b c s) 0 64 (λ s low high. omega arith) in
@@ -41,7 +41,7 @@ one_colour Black square s = omega arith
 changed_step :
     (a b : KeptCounts) (change : Change) (colour : Colour) (square : ℕ) → square < 64 →
     Moves change a b (one_at colour square) →
-    changed a b ≡ 1
+    change_between a b ≡ 1
 changed_step a b change colour square lt h =
     let each : (s : ℕ) → s < 64 → gap_at a b s ≡ bit (square == s) = λ s hs.
     omega (
@@ -77,8 +77,8 @@ pub worked_more : (a b c : KeptCounts) (m n : ℕ) → Worked a b m → Worked b
 worked_more a b c m n p q = record {
   at_most = omega (arith, p.at_most, q.at_most);
   at_least = λ room.
-      let second : b.ticks + changed b c ≤ c.ticks = q.at_least room in
-      let first : a.ticks + changed a b ≤ b.ticks = p.at_least (omega arith) in
+      let second : b.ticks + change_between b c ≤ c.ticks = q.at_least room in
+      let first : a.ticks + change_between a b ≤ b.ticks = p.at_least (omega arith) in
       omega (arith, changed_trans a b c);
 }
 

@@ -1,3 +1,5 @@
+//! Whether a square is attacked (FIDE Laws 3.1.2), looked at from the square by sets of squares, without a count.
+
 ghost use Rattle.std.specs.Prelude.{◌≡◌, ℕ, ◌<◌, ◌&&◌, ◌||◌, true, false};
 ghost use Rattle.std.specs.List.{list_any};
 ghost use Rattle.std.specs.FinSet.{contains};

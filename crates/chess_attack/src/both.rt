@@ -1,3 +1,5 @@
+//! Two followers of one placement, as a single one.
+
 use crate::follower::Follower;
 use chess_types::{Colour, Man, Placement, Square};
 

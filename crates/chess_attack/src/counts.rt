@@ -1,3 +1,5 @@
+//! The attack counts of a placement, which follow its changes one man at a time.
+
 ghost use Rattle.std.specs.Prelude.{◌≡◌, ◌+◌, ◌*◌, ◌<◌, ◌≤◌, None, IsSome};
 ghost use Rattle.std.specs.FinMap as map;
 ghost use Rattle.chess_types.specs.board.Board.{man_at};

@@ -1,3 +1,5 @@
+//! Six fields made a position, if they are one: the last test is that the side not to move isn't in check.
+
 ghost use Rattle.std.specs.Prelude.{◌≡◌, IfOk};
 ghost use Rattle.chess_types.specs.board.Position.{IsWellFormed};
 ghost use Rattle.chess_types.specs.board.Faults.{position_fault, tested};

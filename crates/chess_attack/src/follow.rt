@@ -1,3 +1,5 @@
+//! How a tally follows a man that is put, taken or replaced: his own attacks, and those that went through his square.
+
 ghost use Rattle.std.specs.Prelude.{◌≡◌, ◌+◌, ◌<◌, ◌≤◌, None, IsSome};
 ghost use Rattle.std.specs.FinMap as map;
 ghost use Rattle.chess_types.specs.board.Board.{man_at};

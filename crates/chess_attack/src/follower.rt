@@ -1,3 +1,5 @@
+//! The law of whatever is kept beside a placement and follows its changes: counts, sums, a key, or nothing.
+
 ghost use Rattle.std.specs.Prelude.{◌≡◌, ◌<◌, None, IsSome};
 ghost use Rattle.std.specs.FinMap as map;
 ghost use Rattle.chess_types.specs.board.Board.{man_at};

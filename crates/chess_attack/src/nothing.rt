@@ -1,3 +1,5 @@
+//! The follower that keeps nothing: attacks are looked up on the board.
+
 use crate::attacked::is_attacked;
 use crate::follower::Follower;
 use chess_types::{Colour, Man, Placement, Square};

@@ -1,3 +1,5 @@
+//! The counts of both colours on all squares, and the ticks: the only code that writes a count.
+
 ghost use Rattle.std.specs.Prelude.{◌≡◌, ◌+◌, ◌<◌, min};
 
 use crate::change::Change;

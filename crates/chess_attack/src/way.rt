@@ -1,3 +1,5 @@
+//! The two ways along an axis.
+
 /// Along an axis, to one side or the other.
 #[derive(Clone, Copy)]
 pub enum Way {

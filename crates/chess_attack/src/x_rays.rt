@@ -1,3 +1,5 @@
+//! The attacks of bishops, rooks and queens that go through a square, opened or closed as it is emptied or occupied.
+
 ghost use Rattle.std.specs.Prelude.{◌≡◌, ◌+◌, true, false};
 ghost use Rattle.chess_types.specs.declared.board.man.Colour.{Colour};
 ghost use Rattle.chess_types.specs.board.Board.{man_at};

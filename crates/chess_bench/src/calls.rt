@@ -1,3 +1,5 @@
+//! Calls of the library that are measured alone, each made many times.
+
 ghost use Rattle.std.specs.Prelude.{◌≡◌, ◌<◌};
 
 use chess_fen::{read as read_fen, write as write_fen};

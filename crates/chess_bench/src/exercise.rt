@@ -1,3 +1,5 @@
+//! Men put on a board and taken off at random, with the attack counts and the evaluation that follow them.
+
 ghost use Rattle.std.specs.Prelude.{◌≡◌, ◌<◌, None, Some};
 ghost use Rattle.std.specs.FinMap as map;
 ghost use Rattle.chess_types.specs.board.Men.{men_of};

@@ -1,3 +1,5 @@
+//! The best of all legal moves with the number of positions that were asked for, to be timed.
+
 ghost use Rattle.std.specs.Prelude.{◌≡◌, ◌≤◌};
 ghost use Rattle.chess_draws.specs.LineParts.{IsAsBefore};
 ghost use Rattle.chess_search.specs.Slices.{IsInRange};

@@ -1,3 +1,5 @@
+//! Legal moves written in standard algebraic notation and read back, to be timed.
+
 ghost use Rattle.std.specs.Prelude.{◌≡◌, ◌<◌, IsTrue};
 ghost use Rattle.chess_types.specs.board.Legal.{is_legal as is_legal_in};
 

@@ -1,3 +1,5 @@
+//! A game from the standard input read, written, or gone over by a `Walk` or a `Replay`, to be timed.
+
 use chess_key::KeyTable;
 use chess_pgn::{read_game, write_game};
 use chess_walk::{Replay, Walk};

@@ -1,7 +1,7 @@
 -- What is said of a call on a slot that is known to hold a board.
 use Rattle.std.proofs.Common.{◌≡◌, ◌∙◌, ℕ, ◌+◌, ◌==◌, ne_eqb, arith, Bool, false, if◌then◌else◌, List, ap, refl, sym, subst}
 use Rattle.std.specs.Prelude.{Option, Some, Result, Ok, Err, is_ok}
-use Rattle.chess_fen.specs.Faults.{number_of}
+use Rattle.chess_fen.specs.Faults.{fen_fault_number}
 use Rattle.chess_tree.specs.GameTree.{TreeParts}
 use Rattle.chess_uci.specs.declared.event.Event.{Event}
 use Rattle.chess_uci.specs.Machine.{State}
@@ -13,7 +13,7 @@ use Rattle.chess_bindings.specs.Headings.{HeadingParts}
 use Rattle.chess_bindings.specs.Loads.{LoadsFrom}
 use Rattle.chess_bindings.specs.Next.{LoadsNext}
 use Rattle.chess_c.specs.Asked.{SaysAdded}
-use Rattle.chess_c.specs.Calls.{Acts, ActsOnHeading, AsksHeading, IsAnswered, IsReplying, IsReplyingWithin}
+use Rattle.chess_c.specs.Calls.{Acts, ActsOnHeading, AsksHeading, IsAnswerHanded, IsReplying, IsReplyingWithin}
 use Rattle.chess_c.specs.Codes.{ended_code, refusal_code}
 use Rattle.chess_c.specs.Engines.{IsRepliedFrom, IsRepliedWithinFrom}
 use Rattle.chess_c.specs.Held.{Held, Searching, with_board, with_engine, with_heading, with_search}
@@ -26,7 +26,7 @@ acts_some ends old new held after ended code is en ec end = subst (λ (o : Optio
 
 -- only what is done has the status of what is done
 refused_code : (refusal : Refusal) → (refusal_code refusal == ok) ≡ false
-refused_code (Fen fault) = ne_eqb (20 + number_of fault) 0 (λ same. absurd (omega (arith, same)))
+refused_code (Fen fault) = ne_eqb (20 + fen_fault_number fault) 0 (λ same. absurd (omega (arith, same)))
 refused_code _ = refl
 
 ended_ok : (ended : Result (Unit {0}) Refusal) → (ended_code ended == ok) ≡ is_ok ended
@@ -60,9 +60,9 @@ same_but_engine held after kb kh ks =
 
 pub answered_some : (line : List ℕ) → (old new : Option Held) → (held after : Held) → (code count count' : ℕ) → (room room' : List ℕ)
     → old ≡ Some held → new ≡ Some after → after.heading ≡ held.heading → after.search ≡ held.search → after.engine ≡ held.engine → IsLineAnswered held.board line code count count' room room' after.board
-    → IsAnswered old line code count count' room room' new
+    → IsAnswerHanded old line code count count' room room' new
 answered_some line old new held after code count count' room room' is en kh ks ke told =
-    subst (λ (o : Option Held). IsAnswered o line code count count' room room' new) (sym is) (after.board, told, en ∙ ap (λ (h : Held). Some h) (same_but_board held after kh ks ke))
+    subst (λ (o : Option Held). IsAnswerHanded o line code count count' room room' new) (sym is) (after.board, told, en ∙ ap (λ (h : Held). Some h) (same_but_board held after kh ks ke))
 
 pub replying_some : (event : Event) → (old new : Option Held) → (held after : Held) → (code count count' : ℕ) → (room room' : List ℕ)
     → old ≡ Some held → new ≡ Some after → after.board ≡ held.board → after.heading ≡ held.heading → after.search ≡ held.search

@@ -38,7 +38,7 @@ use Rattle.chess_bindings.specs.Codes.{no_memory, none_best, ok, was_abandoned}
 use Rattle.chess_bindings.specs.Handed.{IsHanded}
 use Rattle.chess_c.specs.Codes.{claims_code, refusal_code}
 use Rattle.chess_c.specs.Held.{Held}
-use Rattle.chess_c.specs.Moves.{shown}
+use Rattle.chess_c.specs.Moves.{move_shown}
 
 -- a move is made, if it is one
 abbrev pub play_in : Option MoveParts → TreeParts → Effect
@@ -67,7 +67,7 @@ IsClaimed (Some claims) code said said' = (code ≡ ok) × (said' ≡ claims_cod
 
 -- the move that a text names is handed out, or why there is none
 abbrev pub IsRead : Result MoveParts SanFault → ℕ → (said said' : CMove) → Type 0
-IsRead (Ok m) code said said' = (code ≡ ok) × (said' ≡ shown m)
+IsRead (Ok m) code said said' = (code ≡ ok) × (said' ≡ move_shown m)
 IsRead (Err fault) code said said' = (code ≡ refusal_code (san_refusal fault)) × (said' ≡ said)
 
 -- by whether the move is legal
@@ -83,7 +83,7 @@ IsWritten (Some m) p code count count' old new = WrittenIf (is_legal p m) p m co
 -- the best move and its value are handed out, or there is none
 abbrev pub IsBest : Option (MoveParts × ℤ) → ℕ → (said said' : CMove) → (value value' : ℤ) → Type 0
 IsBest None code said said' value value' = (code ≡ none_best) × (said' ≡ said) × (value' ≡ value)
-IsBest (Some (m, worth)) code said said' value value' = (code ≡ ok) × (said' ≡ shown m) × (value' ≡ worth)
+IsBest (Some (m, worth)) code said said' value value' = (code ≡ ok) × (said' ≡ move_shown m) × (value' ≡ worth)
 
 -- by whether the depth is one
 abbrev pub BestIf : Bool → Line → (depth code : ℕ) → (said said' : CMove) → (value value' : ℤ) → Type 0
@@ -125,7 +125,7 @@ IsBestWithin says line depth code said said' value value' nodes nodes' =
 -- the move that leads to a node is handed out; none leads to the root
 abbrev pub IsMoveHere : Option MoveParts → ℕ → (said said' : CMove) → Type 0
 IsMoveHere None code said said' = (code ≡ refusal_code AtRoot) × (said' ≡ said)
-IsMoveHere (Some m) code said said' = (code ≡ ok) × (said' ≡ shown m)
+IsMoveHere (Some m) code said said' = (code ≡ ok) × (said' ≡ move_shown m)
 
 -- a bit for each square with a man of the colour that attacks the square (FIDE Laws 3.1 to 3.8)
 abbrev pub attackers_of : (ℕ → Option Man) → Colour → ℕ → ℕ

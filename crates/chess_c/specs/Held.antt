@@ -1,7 +1,7 @@
 -- What a slot holds.
 --   Searching      a search: the line whose last position it is of, its depth, and how many of the legal moves were searched
 --   Held           a board with its tree and what its game's text says beside it, a search, if one was begun, and the state of an engine
---   beginning      as it is made
+--   new_board      as it is made
 --   copy_of        as a copy of it is made
 --   with_board, with_heading, with_search, with_engine   the same with another part
 --   roots          the moves that a search is about: all legal ones
@@ -34,8 +34,8 @@ pub record Held : Type 0 where
   pub engine : State
 
 -- a board as a game begins, of which nothing is known, no search, and an engine at its start
-abbrev pub beginning : Held
-beginning = record { board = answers.beginning; heading = nothing_known; search = None; engine = machine.beginning }
+abbrev pub new_board : Held
+new_board = record { board = answers.new_tree; heading = nothing_known; search = None; engine = machine.beginning }
 
 -- the same game at the same node, no search, and an engine at its start
 abbrev pub copy_of : Held → Held

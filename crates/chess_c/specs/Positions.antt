@@ -1,10 +1,10 @@
 -- A position by its six fields, as C sees it, and what they are read as. Unlike a FEN's they are taken as they are: no right and no target is dropped.
---   is_cell       a byte is a man's letter, or 0 for an empty square
---   cells_in      what is on the 64 squares
---   rights_in     the castling rights held: 1 for White's to castle with the rook of h1, 2 with that of a1, 4 and 8 for Black's, added up
---   target_in     the en passant target: a square, or 64 for none
---   fields_in     the six fields, or the fault of the first that says nothing
---   position_in   the position that they are, or the first fault
+--   is_cell         a byte is a man's letter, or 0 for an empty square
+--   cells_in        what is on the 64 squares
+--   rights_in       the castling rights held: 1 for White's to castle with the rook of h1, 2 with that of a1, 4 and 8 for Black's, added up
+--   target_of_code  the en passant target: a square, or 64 for none
+--   fields_meant    the six fields, or the fault of the first that says nothing
+--   position_meant  the position that they are, or the first fault
 --   letter_of, rights_code, target_code, position_shown   a position as C sees it
 use Rattle.std.specs.Prelude.{ℕ, ◌+◌, ◌==◌, nat_le, nat_lt, Bool, ◌&&◌, ◌||◌, if◌then◌else◌, List, map, Option, Some, None, is_some, Result, Ok, Err, ok_or}
 use Rattle.std.specs.Int.{bit_at}
@@ -22,7 +22,7 @@ use Rattle.chess_fen.specs.declared.fault.FenFault.TheVariants.{Placement, Side,
 use Rattle.chess_fen.specs.Faults.{fault_of}
 use Rattle.chess_fen.specs.Reading.{◌>>=◌, demand}
 use Rattle.chess_c.specs.declared.positions.CPosition.{CPosition}
-use Rattle.chess_c.specs.Codes.{colour_code, colour_in}
+use Rattle.chess_c.specs.Codes.{colour_code, colour_of_code}
 
 -- a letter of PGN 16.1.3.1, or 0
 abbrev pub is_cell : ℕ → Bool
@@ -44,16 +44,16 @@ rights_in code =
     else None
 
 -- the en passant target
-abbrev pub target_in : ℕ → Option (Option ℕ)
-target_in code = if nat_lt code 64 then Some (Some code) else if code == 64 then Some None else None
+abbrev pub target_of_code : ℕ → Option (Option ℕ)
+target_of_code code = if nat_lt code 64 then Some (Some code) else if code == 64 then Some None else None
 
 -- the six fields; both counters are at most 99,999
-abbrev pub fields_in : CPosition → Result PositionParts FenFault
-fields_in c = do
+abbrev pub fields_meant : CPosition → Result PositionParts FenFault
+fields_meant c = do
   cells ← ok_or (cells_in c.men) Placement
-  side ← ok_or (colour_in c.side) Side
+  side ← ok_or (colour_of_code c.side) Side
   rights ← ok_or (rights_in c.castling) Castling
-  target ← ok_or (target_in c.target) Target
+  target ← ok_or (target_of_code c.target) Target
   _ ← demand (nat_le c.clock 99999 && nat_le c.number 99999) Counter
   Ok (record { placement = board_of cells; side = side; rights = rights; target = target; clock = c.clock; number = c.number })
 
@@ -63,9 +63,9 @@ as_of_fen (Ok p) = Ok p
 as_of_fen (Err fault) = Err (fault_of fault)
 
 -- the position of the fields, or its first fault
-abbrev pub position_in : CPosition → Result PositionParts FenFault
-position_in c = do
-  p ← fields_in c
+abbrev pub position_meant : CPosition → Result PositionParts FenFault
+position_meant c = do
+  p ← fields_meant c
   as_of_fen (tested (position_fault p) p)
 
 -- a man's letter, and 0 for an empty square

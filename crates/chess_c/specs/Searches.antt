@@ -1,9 +1,9 @@
 -- A search that the caller drives, one root at a time.
 --   IsSearchOf   the search is one of all legal moves of the line, of which there are some, and draws are not claimed in it
---   begun        a search that has not begun
+--   new_search   a search that has not begun
 --   one_more     one root more is searched, if one is left
 --   left         how many roots are left
---   so_far       the best of the roots that were searched, and its value
+--   best_so_far  the best of the roots that were searched, and its value
 --   IsBegunFrom, IsBegun   a search is begun at a depth from 1 to 16 plies; or the depth is another, or there is no legal move, or no memory
 --   SlicedFrom, IsSliced   one root more is searched, and how many are left is handed out; or none was begun
 --   next_if, next_size     one root more, unless it is abandoned; how many positions plain minimax asks for it, if one is left
@@ -30,8 +30,8 @@ pub record IsSearchOf (line : Line) (p : Progress) : Type 0 where
   pub some : 0 < length p.roots
 
 -- no root was searched
-abbrev pub begun : ℕ → Line → Searching
-begun depth line = record { line = line; depth = depth; searched = 0 }
+abbrev pub new_search : ℕ → Line → Searching
+new_search depth line = record { line = line; depth = depth; searched = 0 }
 
 -- one root more
 abbrev pub one_more : Searching → Searching
@@ -42,13 +42,13 @@ abbrev pub left : Searching → ℕ
 left s = length (roots s.line) - s.searched
 
 -- the best of those that were searched, by plain minimax
-abbrev pub so_far : Searching → Option (MoveParts × ℤ)
-so_far s = best false s.depth s.line (take s.searched (roots s.line))
+abbrev pub best_so_far : Searching → Option (MoveParts × ℤ)
+best_so_far s = best false s.depth s.line (take s.searched (roots s.line))
 
 -- a search is begun that replaces another
 abbrev pub IsBegunFrom : ℕ → TreeParts → ℕ → (old new : Option Searching) → Type 0
 IsBegunFrom depth board code old new =
-    ((code ≡ ok) × (1 ≤ depth) × (depth ≤ 16) × (0 < length (roots (line_to board))) × (new ≡ Some (begun depth (line_to board))))
+    ((code ≡ ok) × (1 ≤ depth) × (depth ≤ 16) × (0 < length (roots (line_to board))) × (new ≡ Some (new_search depth (line_to board))))
     ⊎ ((new ≡ old) × (((code ≡ argument) × ((depth ≡ 0) ⊎ (16 < depth))) ⊎ ((code ≡ none_best) × (roots (line_to board) ≡ [])) ⊎ (code ≡ no_memory)))
 
 -- one root more is searched
@@ -85,7 +85,7 @@ SlicedWithinFrom says (Some s) code said said' nodes nodes' new =
 -- the best so far, if there is one
 abbrev pub best_of : Option Searching → Option (MoveParts × ℤ)
 best_of None = None
-best_of (Some s) = so_far s
+best_of (Some s) = best_so_far s
 
 -- of a slot: a search of the position at the cursor is begun
 abbrev pub IsBegun : ℕ → Option Held → ℕ → Option Held → Type 0

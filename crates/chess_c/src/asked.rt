@@ -1,3 +1,5 @@
+//! What C asks of a board without changing it: how the game stands, counts, checks, moves, texts, and the best move.
+
 ghost use Rattle.std.specs.Prelude.{◌≡◌, ◌<◌, ℕ, max, map, is_some};
 ghost use Rattle.std.specs.FinSet.{contains};
 ghost use Rattle.chess_types.specs.declared.board.man.Colour.TheVariants.{Black, White};
@@ -17,8 +19,8 @@ ghost use Rattle.chess_c.specs.Calls.{Asks};
 ghost use Rattle.chess_bindings.specs.Codes.{outcome_code};
 ghost use Rattle.chess_bindings.specs.Handed.{IsHanded};
 ghost use Rattle.chess_bindings.specs.Within.{says_within};
-ghost use Rattle.chess_c.specs.Codes.{claims_code, colour_in};
-ghost use Rattle.chess_c.specs.Moves.{move_in, shown};
+ghost use Rattle.chess_c.specs.Codes.{claims_code, colour_of_code};
+ghost use Rattle.chess_c.specs.Moves.{move_meant, move_shown};
 ghost use Rattle.chess_c.specs.Positions.{position_shown};
 
 use crate::codes::{claims_code, colour_in, refusal_code};
@@ -63,7 +65,7 @@ pub extern "C" fn jatshegi_board_claims(alloc: Kept, slot: &mut Slot, draws: &mu
 
 // What may be claimed with a move.
 fn claims_with(board: &mut Board<'static, Heap>, m: CMove, draws: &mut u32) -> u32
-    ensures value { IsClaimed (claims_in (move_in m) (line_to board.old)) result draws.old draws.new }
+    ensures value { IsClaimed (claims_in (move_meant m) (line_to board.old)) result draws.old draws.new }
     ensures as_before { board.new ≡ board.old }
 {
     let Some(legal) = m.read() else {
@@ -84,7 +86,7 @@ pub extern "C" fn jatshegi_board_claims_with(
     m: CMove,
     draws: &mut u32,
 ) -> u32
-    ensures { Asks (draws.new ≡ draws.old) (λ board code. IsClaimed (claims_in (move_in m) (line_to board)) code draws.old draws.new) slot.old.held result slot.new.held }
+    ensures { Asks (draws.new ≡ draws.old) (λ board code. IsClaimed (claims_in (move_meant m) (line_to board)) code draws.old draws.new) slot.old.held result slot.new.held }
 {
     let Some(mut session) = take(slot, alloc) else {
         return EMPTY;
@@ -176,7 +178,7 @@ fn attacking(live: &Live<'_>, colour: Colour, square: Square) -> u64
 
 // That word, where the numbers are a colour and a square.
 fn put_attackers(live: &Live<'_>, colour: u8, square: u8, set: &mut u64) -> u32
-    ensures { IsAttackedBy (man_on live.now.position) (colour_in colour) square result set.old set.new }
+    ensures { IsAttackedBy (man_on live.now.position) (colour_of_code colour) square result set.old set.new }
 {
     let Some(colour) = colour_in(colour) else {
         return ARGUMENT;
@@ -198,7 +200,7 @@ pub extern "C" fn jatshegi_board_attackers(
     square: u8,
     set: &mut u64,
 ) -> u32
-    ensures { Asks (set.new ≡ set.old) (λ board code. IsAttackedBy (man_on (last (line_to board))) (colour_in colour) square code set.old set.new) slot.old.held result slot.new.held }
+    ensures { Asks (set.new ≡ set.old) (λ board code. IsAttackedBy (man_on (last (line_to board))) (colour_of_code colour) square code set.old set.new) slot.old.held result slot.new.held }
 {
     let Some(session) = take(slot, alloc) else {
         return EMPTY;
@@ -216,7 +218,7 @@ pub extern "C" fn jatshegi_board_moves(
     moves: &mut [CMove],
     count: &mut usize,
 ) -> u32
-    ensures { Asks ((moves.new ≡ moves.old) × (count.new ≡ count.old)) (λ board code. IsHanded (map shown (legal_moves (last (line_to board)))) code count.new moves.old moves.new) slot.old.held result slot.new.held }
+    ensures { Asks ((moves.new ≡ moves.old) × (count.new ≡ count.old)) (λ board code. IsHanded (map move_shown (legal_moves (last (line_to board)))) code count.new moves.old moves.new) slot.old.held result slot.new.held }
 {
     let Some(mut session) = take(slot, alloc) else {
         return EMPTY;
@@ -234,7 +236,7 @@ pub extern "C" fn jatshegi_board_line(
     moves: &mut [CMove],
     count: &mut usize,
 ) -> u32
-    ensures { Asks ((moves.new ≡ moves.old) × (count.new ≡ count.old)) (λ board code. IsHanded (map shown (line_to board).moves) code count.new moves.old moves.new) slot.old.held result slot.new.held }
+    ensures { Asks ((moves.new ≡ moves.old) × (count.new ≡ count.old)) (λ board code. IsHanded (map move_shown (line_to board).moves) code count.new moves.old moves.new) slot.old.held result slot.new.held }
 {
     let Some(session) = take(slot, alloc) else {
         return EMPTY;
@@ -304,7 +306,7 @@ pub extern "C" fn jatshegi_board_position(
 
 // The text of a move.
 fn write(board: &Board<'static, Heap>, m: CMove, text: &mut [u8], count: &mut usize) -> u32
-    ensures { IsWritten (move_in m) (last (line_to board.now)) result count.old count.new text.old text.new }
+    ensures { IsWritten (move_meant m) (last (line_to board.now)) result count.old count.new text.old text.new }
 {
     let Some(legal) = m.read() else {
         return ILLEGAL;
@@ -324,7 +326,7 @@ pub extern "C" fn jatshegi_board_write(
     text: &mut [u8],
     count: &mut usize,
 ) -> u32
-    ensures { Asks ((text.new ≡ text.old) × (count.new ≡ count.old)) (λ board code. IsWritten (move_in m) (last (line_to board)) code count.old count.new text.old text.new) slot.old.held result slot.new.held }
+    ensures { Asks ((text.new ≡ text.old) × (count.new ≡ count.old)) (λ board code. IsWritten (move_meant m) (last (line_to board)) code count.old count.new text.old text.new) slot.old.held result slot.new.held }
 {
     let Some(session) = take(slot, alloc) else {
         return EMPTY;

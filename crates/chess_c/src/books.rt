@@ -2,9 +2,9 @@
 ghost use Rattle.std.specs.Prelude.{◌≡◌, ◌<◌, ◌==◌};
 ghost use Rattle.chess_types.specs.board.Lines.{last};
 ghost use Rattle.chess_tree.specs.GameTree.{line_to};
-ghost use Rattle.chess_polyglot.specs.Books.{IsFound, entries_in};
+ghost use Rattle.chess_polyglot.specs.Books.{AreFound, entries_in};
 ghost use Rattle.chess_polyglot.specs.Keys.{polyglot_key};
-ghost use Rattle.chess_c.specs.Books.{IsBooked, booked, named_by};
+ghost use Rattle.chess_c.specs.Books.{IsBooked, booked, entry_move};
 ghost use Rattle.chess_c.specs.Calls.{Asks};
 
 use crate::moves::CMove;
@@ -31,7 +31,7 @@ pub extern "C" fn jatshegi_board_key(alloc: Kept, slot: &mut Slot, key: &mut u64
 /// Where a book has the entries of a key: the first of them, counted from 0, and how many there are, one after another.
 #[unsafe(no_mangle)]
 pub extern "C" fn jatshegi_book_find(book: &[u8], key: u64, first: &mut usize, count: &mut usize)
-    ensures { IsFound book.now key first.new count.new }
+    ensures { AreFound book.now key first.new count.new }
 {
     (*first, *count) = find(book, key);
 }
@@ -46,7 +46,7 @@ fn is_of(setup: &Setup, entry: &Entry) -> bool
 // The move that an entry stands for in the position, where it is one of the position's.
 fn named_by(setup: &Setup, book: &[u8], entry: usize) -> Option<Move>
     requires { entry < entries_in book.now }
-    ensures { result ≡ named_by setup.now book.now entry }
+    ensures { result ≡ entry_move setup.now book.now entry }
 {
     let read = Entry::read(book, entry);
     if is_of(setup, &read) {

@@ -1,5 +1,7 @@
+//! The numbers by which C sees refusals, draws that may be claimed, and colours.
+
 ghost use Rattle.std.specs.Prelude.{◌≡◌};
-ghost use Rattle.chess_c.specs.Codes.{claims_code, colour_code, colour_in, ended_code, refusal_code};
+ghost use Rattle.chess_c.specs.Codes.{claims_code, colour_code, colour_of_code, ended_code, refusal_code};
 
 use chess_bindings::{ARGUMENT, AT_ROOT, FORM, ILLEGAL, MEMORY, OK};
 use chess_cli::Refusal;
@@ -55,7 +57,7 @@ pub fn colour_code(colour: Colour) -> u8
 
 /// A colour by its number.
 pub fn colour_in(code: u8) -> Option<Colour>
-    ensures { result ≡ colour_in code }
+    ensures { result ≡ colour_of_code code }
 {
     match code {
         0 => Some(Colour::White),

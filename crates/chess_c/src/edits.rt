@@ -1,3 +1,5 @@
+//! Moves made and taken back, steps, and edits of the tree at the cursor, for C.
+
 ghost use Rattle.std.specs.Prelude.{◌≡◌, ◌++◌, ◌∷◌, [], false, if◌then◌else◌, is_ok, nat_lt, true};
 ghost use Rattle.chess_types.specs.board.Lines.{last};
 ghost use Rattle.chess_san.specs.Naming.{san_reading};
@@ -8,7 +10,7 @@ ghost use Rattle.chess_cli.specs.Answers.{Does, HasEffect, comment_effect, has_w
 ghost use Rattle.chess_tree.specs.Undo.{undone};
 ghost use Rattle.chess_c.specs.Calls.{Acts};
 ghost use Rattle.chess_c.specs.Asked.{SaysAdded, is_new_in, play_in};
-ghost use Rattle.chess_c.specs.Moves.{move_in};
+ghost use Rattle.chess_c.specs.Moves.{move_meant};
 
 use crate::codes::ended_code;
 use crate::moves::CMove;
@@ -19,8 +21,8 @@ use chess_memory::{Heap, Kept};
 
 // Makes the move of three numbers.
 fn play(board: &mut Board<'static, Heap>, m: CMove, added: &mut bool) -> Result<(), Refusal>
-    ensures effect { HasEffect (is_new_in (move_in m) board.old) (play_in (move_in m) board.old) board.old result board.new }
-    ensures adds { added.new ≡ (if is_ok result then is_new_in (move_in m) board.old else added.old) }
+    ensures effect { HasEffect (is_new_in (move_meant m) board.old) (play_in (move_meant m) board.old) board.old result board.new }
+    ensures adds { added.new ≡ (if is_ok result then is_new_in (move_meant m) board.old else added.old) }
 {
     let Some(legal) = m.read() else {
         return Err(Refusal::Illegal);
@@ -46,8 +48,8 @@ pub extern "C" fn jatshegi_board_play(
     m: CMove,
     added: &mut bool,
 ) -> u32
-    ensures acts { Acts (λ board ended after. HasEffect (is_new_in (move_in m) board) (play_in (move_in m) board) board ended after) slot.old.held result slot.new.held }
-    ensures adds { SaysAdded (is_new_in (move_in m)) slot.old.held result added.old added.new }
+    ensures acts { Acts (λ board ended after. HasEffect (is_new_in (move_meant m) board) (play_in (move_meant m) board) board ended after) slot.old.held result slot.new.held }
+    ensures adds { SaysAdded (is_new_in (move_meant m)) slot.old.held result added.old added.new }
 {
     let Some(mut session) = take(slot, alloc) else {
         return EMPTY;

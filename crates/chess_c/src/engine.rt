@@ -1,3 +1,5 @@
+//! The board's engine for C: lines, slices of a search, and moments of the clock in, replies out (UCI).
+
 ghost use Rattle.std.specs.Prelude.{◌≡◌, is_some};
 ghost use Rattle.chess_bindings.specs.Within.{says_within};
 ghost use Rattle.chess_c.specs.Calls.{IsEnded, IsInfinite, IsReplying, IsReplyingWithin, IsSearching, IsTimed, IsWaiting};

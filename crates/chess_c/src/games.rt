@@ -1,4 +1,6 @@
-ghost use Rattle.chess_bindings.specs.Games.{IsGame, IsPassed};
+//! Games at the start of a text for C: read, salvaged, reported on, or passed over.
+
+ghost use Rattle.chess_bindings.specs.Games.{IsGameHanded, IsPassed};
 ghost use Rattle.chess_bindings.specs.Next.{IsNext};
 ghost use Rattle.chess_bindings.specs.Reports.{IsReport};
 ghost use Rattle.chess_bindings.specs.Saved.{IsReadOrSaved};
@@ -19,7 +21,7 @@ pub extern "C" fn jatshegi_game_read(
     count: &mut usize,
     used: &mut usize,
 ) -> u32
-    ensures { IsGame text.now result count.old count.new used.old used.new room.old room.new }
+    ensures { IsGameHanded text.now result count.old count.new used.old used.new room.old room.new }
 {
     let Some(handle) = handle_of(lender) else {
         return MEMORY;

@@ -1,3 +1,5 @@
+//! What all boards of C share: where their memory comes from, and the table of their keys.
+
 ghost use Rattle.std.specs.Prelude.{◌≡◌, ◌⊎◌};
 ghost use Rattle.chess_memory.specs.Lent.{IsTooSmall};
 

@@ -4,9 +4,9 @@ ghost use Rattle.chess_types.specs.board.Lines.{last};
 ghost use Rattle.chess_types.specs.board.Position.{man_on};
 ghost use Rattle.chess_tree.specs.GameTree.{line_to};
 ghost use Rattle.chess_c.specs.Calls.{Asks};
-ghost use Rattle.chess_c.specs.Codes.{colour_in};
+ghost use Rattle.chess_c.specs.Codes.{colour_of_code};
 ghost use Rattle.chess_c.specs.Kinds.{IsOfKinds, IsUnable, kinds_there, sort};
-ghost use Rattle.chess_c.specs.Moves.{move_in};
+ghost use Rattle.chess_c.specs.Moves.{move_meant};
 
 use crate::codes::colour_in;
 use crate::moves::CMove;
@@ -41,7 +41,7 @@ fn kinds_of(setup: &Setup, m: Move) -> u32
 
 // The sorts of a legal move.
 fn put_kinds(board: &mut Board<'static, Heap>, m: CMove, kinds: &mut u32) -> u32
-    ensures value { IsOfKinds (move_in m) (last (line_to board.old)) result kinds.old kinds.new }
+    ensures value { IsOfKinds (move_meant m) (last (line_to board.old)) result kinds.old kinds.new }
     ensures as_before { board.new ≡ board.old }
 {
     let Some(read) = m.read() else {
@@ -63,7 +63,7 @@ pub extern "C" fn jatshegi_board_kinds(
     m: CMove,
     kinds: &mut u32,
 ) -> u32
-    ensures { Asks (kinds.new ≡ kinds.old) (λ board code. IsOfKinds (move_in m) (last (line_to board)) code kinds.old kinds.new) slot.old.held result slot.new.held }
+    ensures { Asks (kinds.new ≡ kinds.old) (λ board code. IsOfKinds (move_meant m) (last (line_to board)) code kinds.old kinds.new) slot.old.held result slot.new.held }
 {
     let Some(mut session) = take(slot, alloc) else {
         return EMPTY;
@@ -75,7 +75,7 @@ pub extern "C" fn jatshegi_board_kinds(
 
 // Whether the side of a number can't mate.
 fn put_unable(setup: &Setup, side: u8, is_unable: &mut bool) -> u32
-    ensures { IsUnable (colour_in side) setup.now result is_unable.old is_unable.new }
+    ensures { IsUnable (colour_of_code side) setup.now result is_unable.old is_unable.new }
 {
     let Some(side) = colour_in(side) else {
         return ARGUMENT;
@@ -93,7 +93,7 @@ pub extern "C" fn jatshegi_board_cannot_mate(
     side: u8,
     is_unable: &mut bool,
 ) -> u32
-    ensures { Asks (is_unable.new ≡ is_unable.old) (λ board code. IsUnable (colour_in side) (last (line_to board)) code is_unable.old is_unable.new) slot.old.held result slot.new.held }
+    ensures { Asks (is_unable.new ≡ is_unable.old) (λ board code. IsUnable (colour_of_code side) (last (line_to board)) code is_unable.old is_unable.new) slot.old.held result slot.new.held }
 {
     let Some(session) = take(slot, alloc) else {
         return EMPTY;

@@ -1,10 +1,12 @@
+//! How a board of C begins and ends: made, copied, set to a position or a game, and freed.
+
 ghost use Rattle.std.specs.Prelude.{◌≡◌, ◌⊎◌, Some, None, if◌then◌else◌, is_some, true};
 ghost use Rattle.chess_fen.specs.Reading.{fen_reading};
 ghost use Rattle.chess_cli.specs.Answers.{HasEffect, set_effect};
 ghost use Rattle.chess_c.specs.Calls.{Acts, IsCopied};
-ghost use Rattle.chess_c.specs.Held.{beginning};
+ghost use Rattle.chess_c.specs.Held.{new_board};
 ghost use Rattle.chess_c.specs.Loads.{Loads, LoadsAsItComes};
-ghost use Rattle.chess_c.specs.Positions.{position_in};
+ghost use Rattle.chess_c.specs.Positions.{position_meant};
 
 use crate::codes::ended_code;
 use crate::keys::Keys;
@@ -18,7 +20,7 @@ use chess_memory::{Heap, Kept, Lender, handle_to, heap_of};
 /// A board as a game begins, in the slot; what was there is freed. Where there is no memory the slot is as it was.
 #[unsafe(no_mangle)]
 pub extern "C" fn jatshegi_board_new(lender: Lender, keys: &'static Keys, slot: &mut Slot) -> u32
-    ensures { ((result ≡ 0) × (slot.new.held ≡ Some beginning)) ⊎ ((result ≡ 2) × (slot.new.held ≡ slot.old.held)) }
+    ensures { ((result ≡ 0) × (slot.new.held ≡ Some new_board)) ⊎ ((result ≡ 2) × (slot.new.held ≡ slot.old.held)) }
 {
     let Some(heap) = heap_of(lender, &keys.heap) else {
         return MEMORY;
@@ -85,7 +87,7 @@ pub extern "C" fn jatshegi_board_set(alloc: Kept, slot: &mut Slot, fen: &[u8]) -
 
 // The same of a position by its fields: its FEN reads as it.
 fn set_position(board: &mut Board<'static, Heap>, position: &CPosition) -> Result<(), Refusal>
-    ensures { HasEffect true (set_effect (position_in position.now)) board.old result board.new }
+    ensures { HasEffect true (set_effect (position_meant position.now)) board.old result board.new }
 {
     let made = position.read()?;
     board.set(chess_fen::write(&made).as_str().as_bytes())
@@ -99,7 +101,7 @@ pub extern "C" fn jatshegi_board_set_position(
     slot: &mut Slot,
     position: &CPosition,
 ) -> u32
-    ensures { Acts (λ board ended after. HasEffect true (set_effect (position_in position.now)) board ended after) slot.old.held result slot.new.held }
+    ensures { Acts (λ board ended after. HasEffect true (set_effect (position_meant position.now)) board ended after) slot.old.held result slot.new.held }
 {
     let Some(mut session) = take(slot, alloc) else {
         return EMPTY;

@@ -1,7 +1,9 @@
+//! Lines of the board's language answered for C, as the program answers them.
+
 ghost use Rattle.std.specs.Prelude.{◌≡◌, ℕ, List, ◌⊎◌, Some, None};
 ghost use Rattle.chess_tree.specs.GameTree.{TreeParts};
 ghost use Rattle.chess_cli.specs.Requests.{request};
-ghost use Rattle.chess_c.specs.Calls.{IsAnswered};
+ghost use Rattle.chess_c.specs.Calls.{IsAnswerHanded};
 
 use crate::slot::{Slot, put, take};
 use chess_bindings::EMPTY;
@@ -17,7 +19,7 @@ pub extern "C" fn jatshegi_board_answer(
     answer: &mut [u8],
     count: &mut usize,
 ) -> u32
-    ensures { IsAnswered slot.old.held line.now result count.old count.new answer.old answer.new slot.new.held }
+    ensures { IsAnswerHanded slot.old.held line.now result count.old count.new answer.old answer.new slot.new.held }
 {
     let Some(mut session) = take(slot, alloc) else {
         return EMPTY;

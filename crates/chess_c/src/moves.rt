@@ -1,6 +1,8 @@
+//! Moves as C sees them, in three numbers, and lists of them written to a caller's room.
+
 ghost use Rattle.std.specs.Prelude.{◌≡◌, ◌≤◌, ◌++◌, drop, length, map};
 ghost use Rattle.chess_bindings.specs.Handed.{IsHanded};
-ghost use Rattle.chess_c.specs.Moves.{IsParsed, IsSpelled, move_in, promotion_code, promotion_in, shown};
+ghost use Rattle.chess_c.specs.Moves.{IsParsed, IsWrittenLong, move_meant, promotion_code, promotion_of_code, move_shown};
 
 use chess_bindings::{ARGUMENT, FORM, OK, ROOM, hand};
 use chess_draws::Line;
@@ -32,7 +34,7 @@ fn promotion_code(promo: Option<Kind>) -> u8
 }
 
 fn promotion_in(code: u8) -> Option<Option<Kind>>
-    ensures { result ≡ promotion_in code }
+    ensures { result ≡ promotion_of_code code }
 {
     match code {
         0 => Some(None),
@@ -47,7 +49,7 @@ fn promotion_in(code: u8) -> Option<Option<Kind>>
 impl CMove {
     /// A move in three numbers.
     pub fn of(m: Move) -> CMove
-        ensures { result ≡ shown m }
+        ensures { result ≡ move_shown m }
     {
         CMove {
             from: m.from.index() as u8,
@@ -58,7 +60,7 @@ impl CMove {
 
     /// The move of three numbers; `None` where they are none.
     pub fn read(self) -> Option<Move>
-        ensures { result ≡ move_in self }
+        ensures { result ≡ move_meant self }
     {
         if self.from >= 64 || self.to >= 64 {
             return None;
@@ -75,7 +77,7 @@ impl CMove {
 // Puts the moves first in a room that is large enough.
 fn put_moves(moves: &[Move], room: &mut [CMove])
     requires { length moves.now ≤ length room.old }
-    ensures { room.new ≡ map shown moves.now ++ drop (length moves.now) room.old }
+    ensures { room.new ≡ map move_shown moves.now ++ drop (length moves.now) room.old }
 {
     for i in 0..moves.len() {
         room[i] = CMove::of(moves[i]);
@@ -84,7 +86,7 @@ fn put_moves(moves: &[Move], room: &mut [CMove])
 
 /// Puts the moves where there is room for them, and says how many they are.
 pub fn hand_moves(moves: &[Move], room: &mut [CMove], count: &mut usize) -> u32
-    ensures { IsHanded (map shown moves.now) result count.new room.old room.new }
+    ensures { IsHanded (map move_shown moves.now) result count.new room.old room.new }
 {
     *count = moves.len();
     if moves.len() > room.len() {
@@ -98,7 +100,7 @@ pub fn hand_moves(moves: &[Move], room: &mut [CMove], count: &mut usize) -> u32
 fn put_line(line: &Line<'static, &'static Heap>, room: &mut [CMove])
     requires still { line.now.looked ≡ 0 }
     requires room { length line.now.line.moves ≤ length room.old }
-    ensures { room.new ≡ map shown line.now.line.moves ++ drop (length line.now.line.moves) room.old }
+    ensures { room.new ≡ map move_shown line.now.line.moves ++ drop (length line.now.line.moves) room.old }
 {
     for ply in 0..line.plies() {
         let Some(m) = line.played(ply) else {
@@ -111,7 +113,7 @@ fn put_line(line: &Line<'static, &'static Heap>, room: &mut [CMove])
 /// The same of the moves of a line.
 pub fn hand_line(line: &Line<'static, &'static Heap>, room: &mut [CMove], count: &mut usize) -> u32
     requires { line.now.looked ≡ 0 }
-    ensures { IsHanded (map shown line.now.line.moves) result count.new room.old room.new }
+    ensures { IsHanded (map move_shown line.now.line.moves) result count.new room.old room.new }
 {
     let plies = line.plies() as usize;
     *count = plies;
@@ -125,7 +127,7 @@ pub fn hand_line(line: &Line<'static, &'static Heap>, room: &mut [CMove], count:
 /// The text of a move in the long algebraic notation of UCI, at most 5 bytes: `e2e4`, `e7e8q`. Whether it is legal isn't asked.
 #[unsafe(no_mangle)]
 pub extern "C" fn jatshegi_move_write(m: CMove, text: &mut [u8], count: &mut usize) -> u32
-    ensures { IsSpelled (move_in m) result count.old count.new text.old text.new }
+    ensures { IsWrittenLong (move_meant m) result count.old count.new text.old text.new }
 {
     match m.read() {
         None => ARGUMENT,

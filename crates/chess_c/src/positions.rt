@@ -4,7 +4,7 @@ ghost use Rattle.std.specs.List.{list_all};
 ghost use Rattle.chess_types.specs.board.Board.{man_at};
 ghost use Rattle.chess_types.specs.board.Squares.{squares};
 ghost use Rattle.chess_types.specs.board.Texts.{man_of_letter};
-ghost use Rattle.chess_c.specs.Positions.{cells_in, fields_in, is_cell, letter_of, position_in, position_shown, rights_code, rights_in, target_code, target_in};
+ghost use Rattle.chess_c.specs.Positions.{cells_in, fields_meant, is_cell, letter_of, position_meant, position_shown, rights_code, rights_in, target_code, target_of_code};
 
 use crate::codes::{colour_code, colour_in};
 use chess_attack::position;
@@ -74,7 +74,7 @@ fn rights_in(code: u8) -> Option<Rights>
 }
 
 fn target_in(code: u8) -> Option<Option<Square>>
-    ensures { result ≡ target_in code }
+    ensures { result ≡ target_of_code code }
 {
     match code {
         0..64 => Some(Some(Square::from_index(code))),
@@ -137,7 +137,7 @@ impl CPosition {
 
     // The six fields, each of which says something.
     fn fields(&self) -> Result<Draft, FenFault>
-        ensures { result ≡ fields_in self.now }
+        ensures { result ≡ fields_meant self.now }
     {
         let men = cells_in(self.men).ok_or(FenFault::Placement)?;
         let side = colour_in(self.side).ok_or(FenFault::Side)?;
@@ -163,7 +163,7 @@ impl CPosition {
     /// The fault of the first field that says nothing; else the first of the position, by the field of a FEN that spells it. Nothing is dropped: a right
     /// without its king and its rook at home, a target that no advance explains and the number 0 are faults.
     pub fn read(&self) -> Result<Position, FenFault>
-        ensures exact { result ≡ position_in self.now }
+        ensures exact { result ≡ position_meant self.now }
         ensures clock { IfOk result (λ p. p.clock ≤ 99999) }
         ensures number { IfOk result (λ p. p.number ≤ 99999) }
     {

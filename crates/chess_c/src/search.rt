@@ -7,7 +7,7 @@ ghost use Rattle.chess_search.specs.Best.{AtRoot, best};
 ghost use Rattle.chess_search.specs.Watches.{IsFree};
 ghost use Rattle.chess_uci.specs.Within.{IsWatched};
 ghost use Rattle.chess_c.specs.Asked.{AsksWithin};
-ghost use Rattle.chess_c.specs.Searches.{begun, left, next_if, next_size, one_more, so_far};
+ghost use Rattle.chess_c.specs.Searches.{new_search, left, next_if, next_size, one_more, best_so_far};
 
 use arrayvec::ArrayVec;
 use chess_bindings::cursor_line;
@@ -74,7 +74,7 @@ impl Search {
     ) -> Result<Option<Search>, AllocError>
         requires deep { 1 ≤ depth }
         requires shallow { depth ≤ 16 }
-        ensures { IfOk result (λ found. MatchOption found (roots (line_to tree.now) ≡ []) (λ search. (search ≡ begun depth (line_to tree.now)) × (0 < length (roots (line_to tree.now))))) }
+        ensures { IfOk result (λ found. MatchOption found (roots (line_to tree.now) ≡ []) (λ search. (search ≡ new_search depth (line_to tree.now)) × (0 < length (roots (line_to tree.now))))) }
     {
         let mut line = cursor_line(handle, table, tree)?;
         let legal = line.moves();
@@ -123,7 +123,7 @@ impl Search {
 
     /// The best of the roots that were searched, with its worth to the side to move; `None` while none was.
     pub fn so_far(&self) -> Option<(Move, i32)>
-        ensures { result ≡ so_far self.now }
+        ensures { result ≡ best_so_far self.now }
     {
         self.slices.so_far()
     }

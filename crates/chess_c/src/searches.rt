@@ -1,3 +1,5 @@
+//! A search of the position at the cursor for C, one legal move for each call.
+
 ghost use Rattle.std.specs.Prelude.{◌≡◌, is_some};
 ghost use Rattle.chess_bindings.specs.Within.{says_within};
 ghost use Rattle.chess_c.specs.Searches.{IsBegun, IsEnded, IsSliced, IsSlicedWithin, IsSoFar};

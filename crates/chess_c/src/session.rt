@@ -9,7 +9,7 @@ ghost use Rattle.chess_c.specs.Asked.{IsBest, IsBestWithin};
 ghost use Rattle.chess_c.specs.Calls.{IsLeft};
 ghost use Rattle.chess_uci.specs.Machine.{is_infinite, is_waiting, time_left};
 ghost use Rattle.chess_c.specs.Engines.{IsRepliedFrom, IsRepliedWithinFrom};
-ghost use Rattle.chess_c.specs.Held.{beginning, copy_of};
+ghost use Rattle.chess_c.specs.Held.{new_board, copy_of};
 ghost use Rattle.chess_bindings.specs.Loads.{LoadsFrom};
 ghost use Rattle.chess_bindings.specs.Next.{LoadsNext};
 ghost use Rattle.chess_c.specs.Searches.{IsBegunFrom, SlicedFrom, SlicedWithinFrom, best_of};
@@ -73,7 +73,7 @@ fn hand_best(best: Option<(Move, i32)>, m: &mut CMove, value: &mut i32) -> u32
 impl Session {
     /// A board as a game begins, and an engine at its start; `Memory` where there is none.
     pub fn new(alloc: &'static Heap, table: &'static KeyTable) -> Result<Session, TreeFault>
-        ensures { IfOk result (λ s. s ≡ beginning) }
+        ensures { IfOk result (λ s. s ≡ new_board) }
     {
         let board = Board::new(alloc, table)?;
         Ok(Session {

@@ -1,3 +1,5 @@
+//! Attack counts and sets of squares as C sees them: 64 bytes, or the bits of a word.
+
 ghost use Rattle.std.specs.Prelude.{◌≡◌, ◌<◌, ℕ, cond, map};
 ghost use Rattle.std.specs.FinSet.{contains, insert};
 ghost use Rattle.chess_types.specs.board.Attack.{count};

@@ -1,3 +1,5 @@
+//! Flags by which another thread of C has a search abandoned: made, shared, set and freed.
+
 ghost use Rattle.std.specs.Prelude.{◌≡◌, None};
 ghost use Rattle.chess_c.specs.Stops.{IsKept, SharesFrom, set_code};
 

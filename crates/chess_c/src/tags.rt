@@ -3,7 +3,7 @@ ghost use Rattle.std.specs.Prelude.{◌≡◌, slice_get};
 ghost use Rattle.chess_pgn.specs.Games.{tag_value};
 ghost use Rattle.chess_pgn.specs.Written.{game_text};
 ghost use Rattle.chess_bindings.specs.Handed.{IsAnsweredBy};
-ghost use Rattle.chess_bindings.specs.Headings.{HandedIfThere, IsOutcomeSet, IsTagCleared, IsTagSet, names};
+ghost use Rattle.chess_bindings.specs.Headings.{HandedIfThere, IsOutcomeSet, IsTagCleared, IsTagSet, tag_names};
 ghost use Rattle.chess_bindings.specs.Reports.{marker_code};
 ghost use Rattle.chess_c.specs.Calls.{ActsOnHeading, AsksHeading};
 
@@ -39,7 +39,7 @@ pub extern "C" fn jatshegi_board_tags(
     name: &mut [u8],
     count: &mut usize,
 ) -> u32
-    ensures { AsksHeading ((name.new ≡ name.old) × (count.new ≡ count.old)) (λ board heading code. HandedIfThere (slice_get (names heading.tags) place) code count.old count.new name.old name.new) slot.old.held result slot.new.held }
+    ensures { AsksHeading ((name.new ≡ name.old) × (count.new ≡ count.old)) (λ board heading code. HandedIfThere (slice_get (tag_names heading.tags) place) code count.old count.new name.old name.new) slot.old.held result slot.new.held }
 {
     let Some(session) = take(slot, alloc) else {
         return EMPTY;

@@ -4,7 +4,7 @@ use Rattle.byte_streams.specs.declared.source.Failed.{Failed}
 use Rattle.chess_tree.specs.GameTree.{TreeParts}
 use Rattle.chess_cli.specs.declared.board_command.answer.Pending.TheVariants.{Nothing, Path, Game}
 use Rattle.chess_loop.specs.InputLines.{line_limit, line_room}
-use Rattle.chess_cli.specs.Answers.{Answers, AnswersRequest, IsGranted, effect, takes_memory, tree_after, long_line, no_memory}
+use Rattle.chess_cli.specs.Answers.{Answers, AnswersRequest, IsGranted, effect, takes_memory, tree_after, long_line, memory_refusal}
 use Rattle.chess_pgn.specs.Games.{untagged}
 use Rattle.chess_pgn.specs.Written.{game_text}
 use Rattle.chess_cli.specs.Numbers.{path_text}
@@ -14,7 +14,7 @@ use Rattle.chess_loop.specs.steps.Sending.{Sends}
 use Rattle.chess_loop.proofs.SendingLemmas.{puts}
 
 -- one that found no memory
-pub answers_without_memory : (p : TreeParts) (bytes : List ℕ) → line_room < length bytes → length bytes ≤ line_limit → Answers p bytes no_memory p
+pub answers_without_memory : (p : TreeParts) (bytes : List ℕ) → line_room < length bytes → length bytes ≤ line_limit → Answers p bytes memory_refusal p
 answers_without_memory p bytes long few = inr (inl (few, long, refl, refl))
 
 -- one over the limit is refused

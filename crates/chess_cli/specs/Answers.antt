@@ -34,19 +34,19 @@ use Rattle.chess_pgn.specs.Games.{untagged}
 use Rattle.chess_pgn.specs.Written.{game_text}
 use Rattle.chess_cli.specs.declared.board_command.refusal.Refusal.{Refusal}
 use Rattle.chess_cli.specs.declared.board_command.refusal.Refusal.TheVariants.{Fen as BadFen, NoSuch, Illegal, TooLong, AtRoot, Full, BadComment, Memory, Command, Argument, LongLine}
-use Rattle.chess_cli.specs.Refusals.{number_of, name_of, san_refusal}
+use Rattle.chess_cli.specs.Refusals.{refusal_number, refusal_name, san_refusal}
 use Rattle.chess_cli.specs.Gaps.{separated_by}
 use Rattle.chess_cli.specs.Numbers.{path_text}
 use Rattle.chess_cli.specs.Outcomes.{claims_text}
 use Rattle.chess_cli.specs.Requests.{Request, Blank, New, Set, Counts, Eval, Fen, Moves, Checks, Play, Back, Step, Start, End, Goto, Path, Promote, Delete, Comment, Nag, Count, Status, Claims, Claim, Best, Pgn, Unknown, Malformed, request}
 
 -- the answer where all is done and nothing was asked for
-abbrev pub ok : List ℕ
-ok = codes "ok\n"
+abbrev pub ok_line : List ℕ
+ok_line = codes "ok\n"
 
 -- `refused N NAME`
 abbrev pub refused : Refusal → List ℕ
-refused refusal = codes "refused " ++ decimal (number_of refusal) ++ codes " " ++ name_of refusal ++ codes "\n"
+refused refusal = codes "refused " ++ decimal (refusal_number refusal) ++ codes " " ++ refusal_name refusal ++ codes "\n"
 
 -- the text, and `none` for no text
 abbrev pub or_none : List ℕ → List ℕ
@@ -67,20 +67,20 @@ counts_text number = separated_by (codes " / ") (map (rank_numbers number) (rang
 
 -- of a call that is done or refused
 abbrev pub ok_or_refused : {X : Type 0} → Result X Refusal → List ℕ
-ok_or_refused (Ok _) = ok
+ok_or_refused (Ok _) = ok_line
 ok_or_refused (Err refusal) = refused refusal
 
 -- the refusal for want of memory
-abbrev pub no_memory : List ℕ
-no_memory = refused Memory
+abbrev pub memory_refusal : List ℕ
+memory_refusal = refused Memory
 
 -- a tree without a move, and the cursor at its root
 abbrev pub tree_from : PositionParts → TreeParts
 tree_from p = record { tree = record { start = p; comment = []; below = Bare }; path = [] }
 
 -- the board as it begins
-abbrev pub beginning : TreeParts
-beginning = tree_from start
+abbrev pub new_tree : TreeParts
+new_tree = tree_from start
 
 -- What a request does: it asks for a text, it leads to a tree and a cursor, or it is refused.
 pub data Effect : Type 0 where
@@ -154,7 +154,7 @@ best_text (Some (m, value)) = move_text m ++ codes " " ++ score_text value
 -- what a request does to a tree, where it is asked at the cursor
 abbrev pub effect : TreeParts → Request → Effect
 effect t Blank = Says []
-effect t New = Does beginning
+effect t New = Does new_tree
 effect t (Set fen) = set_effect (fen_reading fen)
 effect t (Counts colour) = says_line (counts_of (last (line_to t)) colour)
 effect t Eval = says_line (signed_decimal (evaluation (man_on (last (line_to t)))))
@@ -184,7 +184,7 @@ effect t Malformed = Refuses Argument
 -- what is answered
 abbrev pub reply : Effect → List ℕ
 reply (Says text) = text
-reply (Does new) = ok
+reply (Does new) = ok_line
 reply (Refuses refusal) = refused refusal
 
 -- the tree and the cursor afterwards
@@ -194,8 +194,8 @@ tree_left_by old (Does new) = new
 tree_left_by old (Refuses refusal) = old
 
 -- what a request is answered
-abbrev pub answer : TreeParts → Request → List ℕ
-answer t request = reply (effect t request)
+abbrev pub request_answer : TreeParts → Request → List ℕ
+request_answer t request = reply (effect t request)
 
 -- the tree and its cursor after a request
 abbrev pub tree_after : TreeParts → Request → TreeParts
@@ -236,8 +236,8 @@ HasEffect takes effect old (Err refusal) new = ((effect ≡ Refuses refusal) ⊎
 -- that keeps everything.
 abbrev pub AnswersRequest : TreeParts → Request → List ℕ → TreeParts → Type 0
 AnswersRequest old request text new =
-    ((text ≡ answer old request) × (new ≡ tree_after old request))
-    ⊎ ((takes_memory old request ≡ true) × IsGranted (effect old request) × (text ≡ no_memory) × (new ≡ old))
+    ((text ≡ request_answer old request) × (new ≡ tree_after old request))
+    ⊎ ((takes_memory old request ≡ true) × IsGranted (effect old request) × (text ≡ memory_refusal) × (new ≡ old))
 
 -- the refusal of a line over the limit
 abbrev pub long_line : List ℕ
@@ -248,5 +248,5 @@ long_line = refused LongLine
 abbrev pub Answers : TreeParts → List ℕ → List ℕ → TreeParts → Type 0
 Answers old input text new =
     ((length input ≤ line_limit) × AnswersRequest old (request input) text new)
-    ⊎ ((length input ≤ line_limit) × (line_room < length input) × (text ≡ no_memory) × (new ≡ old))
+    ⊎ ((length input ≤ line_limit) × (line_room < length input) × (text ≡ memory_refusal) × (new ≡ old))
     ⊎ ((line_limit < length input) × (text ≡ long_line) × (new ≡ old))

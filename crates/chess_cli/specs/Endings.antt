@@ -15,7 +15,7 @@ use Rattle.chess_cli.specs.declared.ended.Ended.TheVariants.{Good, Input, ReadFa
 use Rattle.chess_cli.specs.declared.uci_command.timed_session.TimedSession.{TimedSession}
 use Rattle.chess_loop.specs.declared.driver.RunEnd.{RunEnd}
 use Rattle.chess_loop.specs.declared.driver.RunEnd.TheVariants as loop
-use Rattle.chess_cli.specs.Answers.{Answers, beginning}
+use Rattle.chess_cli.specs.Answers.{Answers, new_tree}
 use Rattle.chess_cli.specs.Collections.{EndsAtFault, EndsInPart, EndsUnread, EndsWhole, EndsWritten}
 use Rattle.chess_loop.specs.RunEnds.{EndsGood, EndsOver, EndsReadFault, EndsWriteFault, Handler, in_parts, in_texts, most_reads}
 use Rattle.chess_cli.specs.TimedSessions.{Answered, AnsweredInPart, has_ended}
@@ -33,9 +33,9 @@ session reads first = in_parts (Answered reads) (AnsweredInPart reads) has_ended
 
 module _ {R W : Type 0} (source : Source R) (sink : Sink W) where
   pub record BoardEnds (most : ℕ) (result : Ended) (r r' : R) (w w' : W) : Type 0 where
-    pub good : result ≡ Good → (state : TreeParts) × EndsGood (in_texts Answers beginning) source sink state r r' w w'
-    pub read_fault : result ≡ ReadFault → (state : TreeParts) × EndsReadFault (in_texts Answers beginning) source sink most state r r' w w'
-    pub write_fault : result ≡ WriteFault → (state : TreeParts) × EndsWriteFault (in_texts Answers beginning) source sink state r r' w w'
+    pub good : result ≡ Good → (state : TreeParts) × EndsGood (in_texts Answers new_tree) source sink state r r' w w'
+    pub read_fault : result ≡ ReadFault → (state : TreeParts) × EndsReadFault (in_texts Answers new_tree) source sink most state r r' w w'
+    pub write_fault : result ≡ WriteFault → (state : TreeParts) × EndsWriteFault (in_texts Answers new_tree) source sink state r r' w w'
     -- there was no memory to begin with
     pub memory : result ≡ Memory → (r' ≡ r) × (w' ≡ w)
     pub input : (fault : PgnFault) → result ≢ Input fault

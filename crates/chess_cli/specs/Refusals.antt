@@ -1,6 +1,6 @@
 -- The refusals of the board: their numbers and names.
 use Rattle.std.specs.Prelude.{ℕ, List, codes}
-use Rattle.chess_fen.specs.Faults as fen
+use Rattle.chess_fen.specs.Faults.{fen_fault_row}
 use Rattle.chess_san.specs.declared.fault.SanFault.{SanFault}
 use Rattle.chess_san.specs.declared.fault.SanFault.TheVariants as san
 use Rattle.chess_tree.specs.declared.fault.TreeFault.{TreeFault}
@@ -11,28 +11,28 @@ use Rattle.chess_cli.specs.declared.board_command.refusal.Refusal.{Refusal}
 use Rattle.chess_cli.specs.declared.board_command.refusal.Refusal.TheVariants.{Fen, Form, NoSuch, Illegal, TooLong, AtRoot, Ambiguous, Full, BadComment, Memory, Command, Argument, LongLine}
 
 -- a refusal's number and its name
-abbrev pub number_and_name : Refusal → ℕ × List ℕ
-number_and_name (Fen fault) = fen.number_and_name fault
-number_and_name Form = (1, codes "Form")
-number_and_name NoSuch = (1, codes "NoSuch")
-number_and_name Illegal = (2, codes "Illegal")
-number_and_name TooLong = (2, codes "TooLong")
-number_and_name AtRoot = (2, codes "AtRoot")
-number_and_name Ambiguous = (3, codes "Ambiguous")
-number_and_name Full = (3, codes "Full")
-number_and_name BadComment = (4, codes "BadComment")
-number_and_name Memory = (5, codes "Memory")
-number_and_name Command = (6, codes "Command")
-number_and_name Argument = (7, codes "Argument")
-number_and_name LongLine = (8, codes "LongLine")
+abbrev pub refusal_row : Refusal → ℕ × List ℕ
+refusal_row (Fen fault) = fen_fault_row fault
+refusal_row Form = (1, codes "Form")
+refusal_row NoSuch = (1, codes "NoSuch")
+refusal_row Illegal = (2, codes "Illegal")
+refusal_row TooLong = (2, codes "TooLong")
+refusal_row AtRoot = (2, codes "AtRoot")
+refusal_row Ambiguous = (3, codes "Ambiguous")
+refusal_row Full = (3, codes "Full")
+refusal_row BadComment = (4, codes "BadComment")
+refusal_row Memory = (5, codes "Memory")
+refusal_row Command = (6, codes "Command")
+refusal_row Argument = (7, codes "Argument")
+refusal_row LongLine = (8, codes "LongLine")
 
 -- a refusal's number
-abbrev pub number_of : Refusal → ℕ
-number_of refusal = (number_and_name refusal).0
+abbrev pub refusal_number : Refusal → ℕ
+refusal_number refusal = (refusal_row refusal).0
 
 -- a refusal's name
-abbrev pub name_of : Refusal → List ℕ
-name_of refusal = (number_and_name refusal).1
+abbrev pub refusal_name : Refusal → List ℕ
+refusal_name refusal = (refusal_row refusal).1
 
 -- a fault of a tree, as the board reports it
 abbrev pub tree_refusal : TreeFault → Refusal

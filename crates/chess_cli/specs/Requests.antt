@@ -63,8 +63,8 @@ pub data Request : Type 0 where
   Malformed : Request
 
 -- space and tab
-abbrev pub gaps : List ℕ
-gaps = codes " \t"
+abbrev pub word_gaps : List ℕ
+word_gaps = codes " \t"
 
 -- the line without one carriage return at its end
 abbrev pub without_return : List ℕ → List ℕ
@@ -72,7 +72,7 @@ without_return line = if slice_index line (length line - 1) == 13 then take (len
 
 -- what comes after the first word
 abbrev pub rest_of : List ℕ → List ℕ
-rest_of line = after_first_word gaps line
+rest_of line = after_first_word word_gaps line
 
 -- a command that stands alone
 abbrev pub alone : Request → List (List ℕ) → Request
@@ -129,15 +129,15 @@ alone_named word =
 -- another command, by its word and what comes after it
 abbrev pub with_rest : List ℕ → List ℕ → Request
 with_rest word rest =
-    if bytes_eq word (codes "set") then Set (trimmed gaps rest)
-    else if bytes_eq word (codes "counts") then with_value colour_in Counts (words gaps rest)
-    else if bytes_eq word (codes "play") then with_word Play (words gaps rest)
-    else if bytes_eq word (codes "step") then with_value number_in Step (words gaps rest)
-    else if bytes_eq word (codes "goto") then with_value path_in Goto (words gaps rest)
-    else if bytes_eq word (codes "comment") then Comment (trimmed gaps rest)
-    else if bytes_eq word (codes "nag") then with_value nag_in Nag (words gaps rest)
-    else if bytes_eq word (codes "claim") then with_word Claim (words gaps rest)
-    else if bytes_eq word (codes "best") then with_value depth_in Best (words gaps rest)
+    if bytes_eq word (codes "set") then Set (trimmed word_gaps rest)
+    else if bytes_eq word (codes "counts") then with_value colour_in Counts (words word_gaps rest)
+    else if bytes_eq word (codes "play") then with_word Play (words word_gaps rest)
+    else if bytes_eq word (codes "step") then with_value number_in Step (words word_gaps rest)
+    else if bytes_eq word (codes "goto") then with_value path_in Goto (words word_gaps rest)
+    else if bytes_eq word (codes "comment") then Comment (trimmed word_gaps rest)
+    else if bytes_eq word (codes "nag") then with_value nag_in Nag (words word_gaps rest)
+    else if bytes_eq word (codes "claim") then with_word Claim (words word_gaps rest)
+    else if bytes_eq word (codes "best") then with_value depth_in Best (words word_gaps rest)
     else Unknown
 
 -- the request of a word that is known, if nothing follows it; else another
@@ -152,4 +152,4 @@ request_in line (word ∷ others) = asked_by (alone_named word) others (with_res
 
 -- the request of a line, without the carriage return at its end
 abbrev pub request : List ℕ → Request
-request line = request_in (without_return line) (words gaps (without_return line))
+request line = request_in (without_return line) (words word_gaps (without_return line))

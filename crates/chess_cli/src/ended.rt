@@ -1,3 +1,5 @@
+//! How a run of a command ended: its exit status, and the line for the standard error.
+
 ghost use Rattle.std.specs.Prelude.{◌≡◌, []};
 ghost use Rattle.chess_cli.specs.ExitStatus.{fault_text};
 

@@ -1,3 +1,5 @@
+//! Laws of collections of games that are written and read again, and of paths that are written and followed.
+
 ghost use Rattle.chess_cli.specs.Laws.{PathsAreReadBack, ReadAreGames, WrittenAreRead};
 
 use chess_pgn::game_laws;

@@ -1,3 +1,5 @@
+//! The command `pgn`: the games of a reader, each written in export form before the next is read (PGN 3.2).
+
 ghost use Rattle.std.specs.Prelude.{◌≡◌, [], false, None};
 ghost use Rattle.chess_items.specs.Coming.{unread};
 ghost use Rattle.chess_pgn.specs.Written.{game_text};

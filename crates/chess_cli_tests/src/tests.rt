@@ -1,3 +1,5 @@
+//! The tests by subject: whole runs and sessions, games, growths of memory, hostile and unending input.
+
 mod games;
 mod growths;
 mod hostile;

@@ -1,3 +1,5 @@
+//! Why a collection of games isn't gone over to its end, and a game's place in it.
+
 use byte_streams::Failed;
 use std::alloc::AllocError;
 use thiserror::Error;

@@ -1,3 +1,5 @@
+//! How far the reading of a collection has come, shown on the standard error once a second.
+
 use std::time::{Duration, Instant};
 
 /// How far the reading of a collection has come, on the standard error, where that is asked for. A fault of the standard error is ignored.

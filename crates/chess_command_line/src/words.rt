@@ -1,3 +1,5 @@
+//! How the words after a program's name are read, and why they are refused.
+
 use crate::{FAILED, WORDS_REFUSED};
 use clap::error::ErrorKind;
 use clap::{Arg, ArgAction, Error};

@@ -22,7 +22,7 @@ use Rattle.chess_tree.specs.declared.fault.TreeFault.{TreeFault}
 use Rattle.chess_tree.specs.Calls.{Annotates, Comments}
 use Rattle.chess_tree.specs.declared.fault.TreeFault.TheVariants.{AtRoot, Full, Memory, NoSuch}
 use Rattle.chess_tree.proofs.LineLemmas.{find_some, line_on}
-use Rattle.chess_edit.specs.Joined.{joined, line_alone}
+use Rattle.chess_edit.specs.Joined.{line_joined, line_alone}
 use Rattle.chess_edit.specs.steps.Branches.{Begun, annotated_all, with_node}
 
 -- ---- changes of what is below a node
@@ -270,19 +270,19 @@ begun_out old now (inr h) =
 -- ---- along the moves that are there
 
 pub along_on : (m : MoveParts) (nags comment : List ℕ) (below next : Forest) (path : List ℕ) (k : ℕ) (f : Forest) → find m (below_at path f) ≡ Some k
-    → change_below (joined below) (path ++ k ∷ []) f ≡ change_below (joined (Node m nags comment below next)) path f
+    → change_below (line_joined below) (path ++ k ∷ []) f ≡ change_below (line_joined (Node m nags comment below next)) path f
 along_on m nags comment below next path k f e =
-    change_on (joined below) path (k ∷ []) f
-    ∙ change_same (λ x. change_below (joined below) (k ∷ []) x) (joined (Node m nags comment below next)) path f
-    (inside_same k (change_below (joined below) []) (joined below) (below_at path f) refl ∙ sym (found (below_at path f) e))
+    change_on (line_joined below) path (k ∷ []) f
+    ∙ change_same (λ x. change_below (line_joined below) (k ∷ []) x) (line_joined (Node m nags comment below next)) path f
+    (inside_same k (change_below (line_joined below) []) (line_joined below) (below_at path f) refl ∙ sym (found (below_at path f) e))
   where
-    found : (g : Forest) → find m g ≡ Some k → joined (Node m nags comment below next) g ≡ inside k (joined below) g
+    found : (g : Forest) → find m g ≡ Some k → line_joined (Node m nags comment below next) g ≡ inside k (line_joined below) g
     found g is = rw is refl
 
-pub ends_bare : (line f : Forest) → line ≡ Bare → joined line f ≡ append f (line_alone line)
+pub ends_bare : (line f : Forest) → line ≡ Bare → line_joined line f ≡ append f (line_alone line)
 ends_bare line f e = rw e (sym (append_none f))
 
-pub ends_apart : (m : MoveParts) (nags comment : List ℕ) (below next line f : Forest) → line ≡ Node m nags comment below next → find m f ≡ None → joined line f ≡ append f (line_alone line)
+pub ends_apart : (m : MoveParts) (nags comment : List ℕ) (below next line f : Forest) → line ≡ Node m nags comment below next → find m f ≡ None → line_joined line f ≡ append f (line_alone line)
 ends_apart m nags comment below next line f e none = rw (e, none) refl
 
 -- ---- the next node of a line
@@ -386,7 +386,7 @@ grow_on old now new f all n m nags comment next e1 e2 e line g =
 -- one move of both more
 pub record Went (old new : TreeParts) (line all : Forest) : Type 0 where
   pub same : new.tree ≡ old.tree
-  pub goes : change_below (joined line) new.path old.tree.below ≡ change_below (joined all) old.path old.tree.below
+  pub goes : change_below (line_joined line) new.path old.tree.below ≡ change_below (line_joined all) old.path old.tree.below
   pub sound : AreSound (last (line_to new)) line
   pub deep : length new.path + height line ≤ 20000
 
@@ -398,9 +398,9 @@ go_on old now new f all n m k next found e w =
     record {
       same = ap (λ (t : TreeParts). t.tree) e ∙ w.same;
       goes =
-          ap (λ (t : TreeParts). change_below (joined n.below) t.path old.tree.below) e
+          ap (λ (t : TreeParts). change_below (line_joined n.below) t.path old.tree.below) e
           ∙ along_on m n.nags n.comment n.below next.next now.path k old.tree.below (ap (find m) (sym here) ∙ found)
-          ∙ ap (λ (x : Forest). change_below (joined x) now.path old.tree.below) (sym next.is) ∙ w.goes;
+          ∙ ap (λ (x : Forest). change_below (line_joined x) now.path old.tree.below) (sym next.is) ∙ w.goes;
       sound = next.sound (line_to new) (ap line_to e ∙ line_on now k m there.1);
       deep = (let l = ap (λ (t : TreeParts). length t.path) e in let a = length-append now.path (k ∷ []) in omega (arith, l, a, next.short));
     }
@@ -411,16 +411,16 @@ stepped (Ok u) m f k found at fault e = absurd cc
 stepped (Err x) m f k found at fault e = (let h = find_some m f k found in absurd (omega (arith, h.0, at.1)))
 
 -- where the moves part, the rest of the line comes after the others
-pub ends_where_none : (m : MoveParts) (n : NodeParts) (now : TreeParts) (f g : Forest) → NextOf now f n m → find m g ≡ None → joined f g ≡ append g (line_alone f)
+pub ends_where_none : (m : MoveParts) (n : NodeParts) (now : TreeParts) (f g : Forest) → NextOf now f n m → find m g ≡ None → line_joined f g ≡ append g (line_alone f)
 ends_where_none m n now f g next none = ends_apart m n.nags n.comment n.below next.next f g next.is none
 
 -- the whole: along the moves of both, and the rest added there
-pub all_joined : (old mid new : TreeParts) (rest all : Forest) → mid.tree ≡ old.tree → change_below (joined rest) mid.path old.tree.below ≡ change_below (joined all) [] old.tree.below
-    → joined rest (nodes_here mid) ≡ append (nodes_here mid) (line_alone rest) → new.tree ≡ whole mid rest → new.tree ≡ changed (joined all) old.tree
+pub all_joined : (old mid new : TreeParts) (rest all : Forest) → mid.tree ≡ old.tree → change_below (line_joined rest) mid.path old.tree.below ≡ change_below (line_joined all) [] old.tree.below
+    → line_joined rest (nodes_here mid) ≡ append (nodes_here mid) (line_alone rest) → new.tree ≡ whole mid rest → new.tree ≡ changed (line_joined all) old.tree
 all_joined old mid new rest all same goes ends added_all =
     added_all
-    ∙ ap (tree_of mid) (sym (change_same (joined rest) (λ x. append x (line_alone rest)) mid.path mid.tree.below ends))
-    ∙ ap (λ (t : GameTree). changed (change_below (joined rest) mid.path) t) same
+    ∙ ap (tree_of mid) (sym (change_same (line_joined rest) (λ x. append x (line_alone rest)) mid.path mid.tree.below ends))
+    ∙ ap (λ (t : GameTree). changed (change_below (line_joined rest) mid.path) t) same
     ∙ ap (tree_of old) goes
 
 pub unless : {P : Type 0} {T E : Type 0} (r : Result T E) → ((e : E) → r ≡ Err e → ⊥) → OnOk r P → P
@@ -438,13 +438,13 @@ pub root_sound : (t : TreeParts) (s : PositionParts) (f : Forest) → t.path ≡
 root_sound t s f root start sound = subst (λ (p : PositionParts). AreSound p f) (sym (ap (λ (x : List ℕ). last (line_along x t.tree)) root ∙ last_at_root t.tree ∙ start)) sound
 
 pub joined_trees : (old at_start mid grown new : TreeParts) (root : NodeParts) (other : GameTree) (rest : Forest) → at_start ≡ at_path [] old → root ≡ root_node other → mid.tree ≡ at_start.tree
-    → change_below (joined rest) mid.path at_start.tree.below ≡ change_below (joined root.below) at_start.path at_start.tree.below
-    → joined rest (nodes_here mid) ≡ append (nodes_here mid) (line_alone rest) → grown.tree ≡ whole mid rest → new ≡ at_path [] grown → new.tree ≡ changed (joined other.below) old.tree
+    → change_below (line_joined rest) mid.path at_start.tree.below ≡ change_below (line_joined root.below) at_start.path at_start.tree.below
+    → line_joined rest (nodes_here mid) ≡ append (nodes_here mid) (line_alone rest) → grown.tree ≡ whole mid rest → new ≡ at_path [] grown → new.tree ≡ changed (line_joined other.below) old.tree
 joined_trees old at_start mid grown new root other rest e1 e2 same goes ends added_all e3 =
     let s : at_start.tree ≡ old.tree = ap (λ (t : TreeParts). t.tree) e1 in
-    let all : change_below (joined rest) mid.path old.tree.below ≡ change_below (joined other.below) [] old.tree.below =
-    ap (λ (t : GameTree). change_below (joined rest) mid.path t.below) (sym s) ∙ goes
-    ∙ ap (λ (t : TreeParts). change_below (joined root.below) t.path t.tree.below) e1 ∙ ap (λ (n : NodeParts). joined n.below old.tree.below) e2 in
+    let all : change_below (line_joined rest) mid.path old.tree.below ≡ change_below (line_joined other.below) [] old.tree.below =
+    ap (λ (t : GameTree). change_below (line_joined rest) mid.path t.below) (sym s) ∙ goes
+    ∙ ap (λ (t : TreeParts). change_below (line_joined root.below) t.path t.tree.below) e1 ∙ ap (λ (n : NodeParts). line_joined n.below old.tree.below) e2 in
     ap (λ (t : TreeParts). t.tree) e3 ∙ all_joined old mid grown rest other.below (same ∙ s) all ends added_all
 
 -- the FEN of a position is no other's
@@ -543,8 +543,8 @@ line_full old now m n nags comment f all next e1 e2 over goes =
 
 -- of the whole: along the moves of both, and the rest added there
 pub joined_full : (old at_start mid : TreeParts) (root : NodeParts) (other : GameTree) (rest : Forest) → at_start ≡ at_path [] old → root ≡ root_node other → mid.tree ≡ at_start.tree
-    → change_below (joined rest) mid.path at_start.tree.below ≡ change_below (joined root.below) at_start.path at_start.tree.below
-    → joined rest (nodes_here mid) ≡ append (nodes_here mid) (line_alone rest) → 1000000 < moves_held (whole mid rest).below → 1000000 < moves_held (joined other.below old.tree.below)
+    → change_below (line_joined rest) mid.path at_start.tree.below ≡ change_below (line_joined root.below) at_start.path at_start.tree.below
+    → line_joined rest (nodes_here mid) ≡ append (nodes_here mid) (line_alone rest) → 1000000 < moves_held (whole mid rest).below → 1000000 < moves_held (line_joined other.below old.tree.below)
 joined_full old at_start mid root other rest e1 e2 same goes ends over =
     let grown : TreeParts = record { tree = whole mid rest; path = [] } in
     let is = joined_trees old at_start mid grown (at_path [] grown) root other rest e1 e2 same goes ends refl refl in

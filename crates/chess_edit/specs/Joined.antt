@@ -1,6 +1,6 @@
 -- The main line of one game among the moves of another (PGN 8.2.5).
 --   line_alone   the main continuations alone, with their notes
---   joined       that line among nodes side by side: on below the first of them with its move; where there is none, after all of them
+--   line_joined  that line among nodes side by side: on below the first of them with its move; where there is none, after all of them
 use Rattle.std.specs.Prelude.{ℕ, Option, Some, None}
 use Rattle.chess_tree.specs.Edits.{inside}
 use Rattle.chess_tree.specs.Forest.{Forest, Bare, Node, append}
@@ -12,11 +12,11 @@ line_alone Bare = Bare
 line_alone (Node m nags comment below next) = Node m nags comment (line_alone below) Bare
 
 -- below the node at that place, or a node more
-abbrev pub placed : Option ℕ → (below : Forest → Forest) → (alone f : Forest) → Forest
-placed (Some k) below alone f = inside k below f
-placed None below alone f = append f alone
+abbrev pub below_or_after : Option ℕ → (below : Forest → Forest) → (alone f : Forest) → Forest
+below_or_after (Some k) below alone f = inside k below f
+below_or_after None below alone f = append f alone
 
 -- the notes of a move that both have are those of the nodes
-abbrev pub joined : (line f : Forest) → Forest
-joined Bare f = f
-joined (Node m nags comment below next) f = placed (find m f) (joined below) (line_alone (Node m nags comment below next)) f
+abbrev pub line_joined : (line f : Forest) → Forest
+line_joined Bare f = f
+line_joined (Node m nags comment below next) f = below_or_after (find m f) (line_joined below) (line_alone (Node m nags comment below next)) f

@@ -1,5 +1,5 @@
 -- Tags of a game set by their names (PGN 8.1).
---   is_named      a name: letters, digits and underscores, at least one (PGN 7)
+--   is_tag_name   a name: letters, digits and underscores, at least one (PGN 7)
 --   is_derived         the tags that say how the game ended and where it begins, which the game itself has (PGN 8.1.1.7, 9.7)
 --   tag_answer    what setting a tag answers where there is memory: the first fault that applies
 --   IsTagAnswer   want of memory is answered only where nothing else is wrong
@@ -14,8 +14,8 @@ use Rattle.chess_edit.specs.declared.tags.TagFault.{TagFault}
 use Rattle.chess_edit.specs.declared.tags.TagFault.TheVariants.{BadName, OwnTag, BadValue, Memory}
 
 -- letters, digits and underscores, and at least one
-abbrev pub is_named : List ℕ → Bool
-is_named name = not (length name == 0) && list_all is_name_byte name
+abbrev pub is_tag_name : List ℕ → Bool
+is_tag_name name = not (length name == 0) && list_all is_name_byte name
 
 -- how the game ended, and where it begins
 abbrev pub is_derived : List ℕ → Bool
@@ -24,7 +24,7 @@ is_derived name = bytes_eq name (codes "Result") || bytes_eq name (codes "FEN") 
 -- a name, of no tag that the game itself has, and a value on one line
 abbrev pub tag_answer : (name value : List ℕ) → Result (Unit {0}) TagFault
 tag_answer name value =
-    if not (is_named name) then Err BadName
+    if not (is_tag_name name) then Err BadName
     else (if is_derived name then Err OwnTag else (if not (list_all in_line value) then Err BadValue else Ok tt))
 
 -- memory may be refused where nothing else is wrong

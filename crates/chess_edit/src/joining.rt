@@ -9,7 +9,7 @@ ghost use Rattle.chess_tree.specs.Edits.{change_below};
 ghost use Rattle.chess_tree.specs.Forest.{append, height, most_moves, moves_held};
 ghost use Rattle.chess_tree.specs.GameTree.{at_path, changed, commented_here, deleted, has, line_to, nodes_here};
 ghost use Rattle.chess_tree.specs.WellFormed.{AreSound};
-ghost use Rattle.chess_edit.specs.Joined.{joined, line_alone};
+ghost use Rattle.chess_edit.specs.Joined.{line_joined, line_alone};
 ghost use Rattle.chess_edit.specs.steps.Branches.{Begun, annotated_all, with_node};
 ghost use Rattle.chess_edit.specs.declared.joining.JoinFault.TheVariants.{Full, Start};
 ghost use Rattle.chess_tree.specs.declared.fault.TreeFault.TheVariants as tree_fault;
@@ -157,8 +157,8 @@ fn go_along<'t, 'a, A: Allocator>(
     requires sound { AreSound (last (line_to tree.old)) node.below }
     requires deep { length tree.old.path + height node.below ≤ most_plies }
     ensures same { tree.new.tree ≡ tree.old.tree }
-    ensures goes { change_below (joined result.below) tree.new.path tree.old.tree.below ≡ change_below (joined node.entry.below) tree.old.path tree.old.tree.below }
-    ensures ends { joined result.below (nodes_here tree.new) ≡ append (nodes_here tree.new) (line_alone result.below) }
+    ensures goes { change_below (line_joined result.below) tree.new.path tree.old.tree.below ≡ change_below (line_joined node.entry.below) tree.old.path tree.old.tree.below }
+    ensures ends { line_joined result.below (nodes_here tree.new) ≡ append (nodes_here tree.new) (line_alone result.below) }
     ensures sound { AreSound (last (line_to tree.new)) result.below }
     ensures deep { length tree.new.path + height result.below ≤ most_plies }
 {
@@ -186,9 +186,9 @@ fn join_trees<'a, A: Allocator>(
     other: &Tree<'a, A>,
 ) -> Result<(), TreeFault>
     requires start { tree.old.tree.start ≡ other.now.tree.start }
-    ensures ok { OnOk result (tree.new.tree ≡ changed (joined other.now.tree.below) tree.old.tree) }
+    ensures ok { OnOk result (tree.new.tree ≡ changed (line_joined other.now.tree.below) tree.old.tree) }
     ensures err { OnErr result (tree.new.tree ≡ tree.old.tree) }
-    ensures full { result ≡ Err tree_fault.Full → most_moves < moves_held (joined other.now.tree.below tree.old.tree.below) }
+    ensures full { result ≡ Err tree_fault.Full → most_moves < moves_held (line_joined other.now.tree.below tree.old.tree.below) }
     ensures cursor { tree.new.path ≡ [] }
 {
     let _start = other.position();
@@ -228,11 +228,11 @@ fn join_fault(fault: TreeFault) -> JoinFault
 /// `Start` where the games begin in different positions, else `Full` only where the game would have more than 1,000,000 moves, or `Memory`
 /// where there is none. The game is then as before, but for the cursor.
 pub fn join<'a, A: Allocator>(game: &mut Game<'a, A>, other: &Game<'a, A>) -> Result<(), JoinFault>
-    ensures ok { OnOk result (game.new.tree.tree ≡ changed (joined other.now.tree.tree.below) game.old.tree.tree) }
+    ensures ok { OnOk result (game.new.tree.tree ≡ changed (line_joined other.now.tree.tree.below) game.old.tree.tree) }
     ensures err { OnErr result (game.new.tree.tree ≡ game.old.tree.tree) }
     ensures start { game.old.tree.tree.start ≢ other.now.tree.tree.start → result ≡ Err Start }
     ensures same { game.old.tree.tree.start ≡ other.now.tree.tree.start → IfErr result (λ fault. fault ≢ Start) }
-    ensures full { result ≡ Err Full → most_moves < moves_held (joined other.now.tree.tree.below game.old.tree.tree.below) }
+    ensures full { result ≡ Err Full → most_moves < moves_held (line_joined other.now.tree.tree.below game.old.tree.tree.below) }
     ensures tags { game.new.tags ≡ game.old.tags }
     ensures result { game.new.result ≡ game.old.result }
     ensures cursor { OnOk result (game.new.tree.path ≡ []) }

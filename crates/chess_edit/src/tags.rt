@@ -1,6 +1,8 @@
+//! A game's tags set and cleared by their rules (PGN 8.1), and why a tag isn't set.
+
 ghost use Rattle.std.specs.Prelude.{◌≡◌, Some, OnOk, OnErr, IfOk, option_map};
 ghost use Rattle.chess_pgn.specs.Games.{tag_value, unknown};
-ghost use Rattle.chess_edit.specs.SetTags.{IsSet, IsTagAnswer, is_named, tag_answer, is_derived};
+ghost use Rattle.chess_edit.specs.SetTags.{IsSet, IsTagAnswer, is_tag_name, tag_answer, is_derived};
 ghost use Rattle.chess_items.specs.Items.{in_line, is_digit, is_letter, is_name_byte};
 ghost use Rattle.std.specs.List.{list_all};
 ghost use Rattle.chess_pgn.specs.steps.GameCode.{tags_of};
@@ -59,7 +61,7 @@ fn has_name_bytes(name: &[u8]) -> bool
 
 // Whether it is the name of a tag.
 fn is_named(name: &[u8]) -> bool
-    ensures { result ≡ is_named name.now }
+    ensures { result ≡ is_tag_name name.now }
 {
     !name.is_empty() && has_name_bytes(name)
 }

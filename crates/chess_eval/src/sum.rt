@@ -1,3 +1,5 @@
+//! The evaluation of a placement as three sums, which follow its changes one man at a time.
+
 ghost use Rattle.std.specs.Prelude.{◌≡◌, ◌≢◌, Some, pos, neg_ℤ, ◌≤ℤ◌, int_div};
 ghost use Rattle.std.specs.FinMap as map;
 ghost use Rattle.chess_types.specs.board.Board.{Board, Men, man_at};

@@ -1,3 +1,5 @@
+//! Tables of what each man is worth on each square, in the middlegame and in the endgame, and of the kinds' weights.
+
 ghost use Rattle.std.specs.Prelude.{◌≡◌, pos, neg_ℤ, ◌≤ℤ◌};
 ghost use Rattle.chess_eval.specs.Worth.{middle_of, end_of, weight_of};
 

@@ -1,3 +1,5 @@
+//! An example of the board's language: lines asked and lines wanted, and whether a new board answers so.
+
 ghost use Rattle.std.specs.Prelude.{◌≡◌, ◌++◌, ◌∷◌, [], OnOk};
 
 use byte_streams::{FromBytes, ToBytes};

@@ -1,3 +1,5 @@
+//! The examples of the standard input, run one after another and counted.
+
 use crate::example::Example;
 use std::io;
 

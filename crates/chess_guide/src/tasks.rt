@@ -1,3 +1,5 @@
+//! The tasks of the guide, each as a function that prints what it found.
+
 ghost use Rattle.std.specs.Prelude.{◌≡◌, ℕ, [], IfSome};
 ghost use Rattle.chess_pgn.specs.Reading.{BeginsWithGame};
 ghost use Rattle.chess_pgn.specs.steps.GameCode.{game_of};

@@ -1,3 +1,5 @@
+//! The bytes that make up a run of an item: a table of their classes, and the longest run at a text's beginning.
+
 ghost use Rattle.std.specs.Prelude.{◌≡◌, ◌==◌, not, ◌≤◌, length};
 ghost use Rattle.std.specs.List.{prefix_len};
 ghost use Rattle.chess_items.specs.Items.{is_blank, is_escapable};

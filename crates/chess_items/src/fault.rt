@@ -1,3 +1,5 @@
+//! Why a text is no game: each kind of fault with its number and its name, and where it is.
+
 ghost use Rattle.std.specs.Prelude.{◌≡◌};
 
 use std::alloc::{AllocError, AllocFailed};

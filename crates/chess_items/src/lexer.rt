@@ -1,3 +1,5 @@
+//! The first item of a text, by where in a game it stands.
+
 ghost use Rattle.std.specs.Prelude.{◌≡◌, Some, bytes_eq};
 ghost use Rattle.std.specs.List.{list_all};
 ghost use Rattle.chess_items.specs.Items.{digits_value, glyph_value, is_digit, word_item};

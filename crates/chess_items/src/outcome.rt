@@ -1,3 +1,5 @@
+//! The four ways in which a game's text says that it ended (PGN 8.2.6).
+
 ghost use Rattle.std.specs.Prelude.{◌≡◌};
 ghost use Rattle.chess_items.specs.Markers.{outcome_text};
 

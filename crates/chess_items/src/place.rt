@@ -1,3 +1,5 @@
+//! The places in a text by which its items are told apart.
+
 /// Where in a text an item stands.
 #[derive(Clone, Copy)]
 pub enum Place {

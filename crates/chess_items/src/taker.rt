@@ -1,3 +1,5 @@
+//! The law of what takes items, one after another.
+
 ghost use Rattle.std.specs.Prelude.{ℕ, Result};
 ghost use Rattle.chess_items.specs.Items.{Item};
 ghost use Rattle.chess_items.specs.steps.Tokens.{item_of};

@@ -1,3 +1,5 @@
+//! The items of a game's text, and the place that each leads to.
+
 ghost use Rattle.std.specs.Prelude.{◌≡◌};
 ghost use Rattle.chess_items.specs.Items.{place_after};
 ghost use Rattle.chess_items.specs.steps.Tokens.{item_of};

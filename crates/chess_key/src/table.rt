@@ -1,3 +1,5 @@
+//! The table of words that keys are made of, one for each man on each square.
+
 ghost use Rattle.std.specs.Prelude.{◌≡◌};
 ghost use Rattle.chess_key.specs.Keys.{key_word};
 

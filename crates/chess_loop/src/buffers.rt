@@ -1,3 +1,5 @@
+//! A list filled with one value.
+
 ghost use Rattle.std.specs.Prelude.{◌≡◌, IfOk, vec_len};
 
 use std::alloc::{AllocError, Allocator};

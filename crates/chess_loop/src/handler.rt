@@ -1,3 +1,5 @@
+//! The law of what answers lines.
+
 ghost use Rattle.std.specs.Prelude.{◌≡◌, ◌+◌, ◌≤◌, false, length};
 ghost use Rattle.chess_loop.specs.steps.Reads.{AnswersLine, Refuses};
 

@@ -1,3 +1,5 @@
+//! The line that is being read, kept to its end unless it is too long or finds no memory.
+
 ghost use Rattle.std.specs.Prelude.{◌≡◌, ◌<◌, ◌≤◌, List, ℕ, [], ◌++◌, ◌==◌, length, IfOk};
 ghost use Rattle.chess_loop.specs.steps.Reads.{Holds};
 ghost use Rattle.chess_loop.specs.steps.Readings.{ReadAs};

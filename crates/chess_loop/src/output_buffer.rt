@@ -1,3 +1,5 @@
+//! The page on which answers are gathered before they are written.
+
 ghost use Rattle.std.specs.Prelude.{◌≡◌, ◌+◌, ◌≤◌, [], ◌∷◌, ◌++◌, length, IfOk, OnOk};
 ghost use Rattle.chess_loop.specs.steps.Sending.{Flows, Sends};
 

@@ -1,3 +1,5 @@
+//! A text written whole, by as many calls as it takes.
+
 ghost use Rattle.std.specs.Prelude.{[]};
 ghost use Rattle.chess_loop.specs.steps.Sending.{SentOr};
 

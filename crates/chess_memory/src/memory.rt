@@ -1,3 +1,5 @@
+//! The types by which boards and calls of the library for C take memory and give it back: the process' heap.
+
 ghost use Rattle.std.specs.Prelude.{◌≡◌, IfSome, None};
 ghost use Rattle.chess_memory.specs.Lent.{IsTooSmall};
 

@@ -1,3 +1,5 @@
+//! Whether the side to move is in check, and whether a move gives check (FIDE Laws 3.9.1).
+
 ghost use Rattle.std.specs.Prelude.{◌≡◌, ◌≤◌, IsTrue};
 ghost use Rattle.chess_types.specs.board.After.{after};
 ghost use Rattle.chess_types.specs.board.Pseudo.{is_pseudo};

@@ -1,3 +1,5 @@
+//! How many legal moves there are, and whether there is one, without a list of them.
+
 ghost use Rattle.std.specs.Prelude.{◌≡◌, ◌<◌, ◌≤◌, true, filter, length, nat_lt};
 ghost use Rattle.std.specs.FinSet.{contains};
 ghost use Rattle.chess_types.specs.board.Men.{is_man, is_of};

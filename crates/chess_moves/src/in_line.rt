@@ -1,3 +1,5 @@
+//! A table of the squares in line with each square, and whether two squares are in line.
+
 ghost use Rattle.std.specs.Prelude.{◌≡◌};
 ghost use Rattle.chess_moves.specs.steps.Guarded.{in_line};
 

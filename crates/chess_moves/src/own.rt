@@ -1,3 +1,5 @@
+//! The men of the side to move, by their squares and kinds.
+
 ghost use Rattle.std.specs.Prelude.{◌≡◌, ◌≤◌, true};
 ghost use Rattle.chess_types.specs.steps.KeptSets.{Gathers};
 ghost use Rattle.chess_types.specs.board.Men.{is_man, is_of, men_of};

@@ -1,3 +1,5 @@
+//! The moves of many pawns at once, counted by shifts of sets of squares (FIDE Laws 3.7).
+
 ghost use Rattle.std.specs.Prelude.{◌≡◌, ◌<◌, ◌≤◌, ◌&&◌, ◌==◌, ℕ, not, nat_lt};
 ghost use Rattle.std.specs.FinSet.{contains};
 ghost use Rattle.chess_types.specs.board.Squares.{file_of, rank_of};

@@ -1,3 +1,5 @@
+//! The squares to which a man of the side to move goes legally, as a set.
+
 ghost use Rattle.std.specs.Prelude.{◌≡◌, ◌<◌, ◌&&◌, ◌||◌, ◌==◌, ℕ, None, true, false, is_none, IfSome, IfNone};
 ghost use Rattle.std.specs.FinSet.{contains};
 ghost use Rattle.chess_types.specs.declared.board.man.Kind.TheVariants.{Pawn, King};

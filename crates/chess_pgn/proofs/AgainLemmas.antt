@@ -17,7 +17,7 @@ use Rattle.chess_tree.specs.GameTree.{GameTree}
 use Rattle.chess_fen.proofs.BackLemmas.{read_back}
 use Rattle.chess_pgn.specs.Games.{Game}
 use Rattle.chess_pgn.specs.Grammar.{Derives, elements}
-use Rattle.chess_pgn.specs.Laws.{IsValue, NewIsGame, ReadIsGame, IsGame, WrittenIsRead, nesting}
+use Rattle.chess_pgn.specs.Laws.{IsTagValue, NewIsGame, ReadIsGame, IsGame, WrittenIsRead, nesting}
 use Rattle.chess_pgn.specs.Layout.{in_lines}
 use Rattle.chess_pgn.specs.Reading.{BeginsWithGame, remarks}
 use Rattle.chess_items.specs.Markers.{outcome_text}
@@ -144,7 +144,7 @@ written_is_read game is few before rest used white counted small = at_front game
 
 -- ---- a new game
 
-known_value : (text : List ℕ) → list_all in_line text ≡ true → IsValue text
+known_value : (text : List ℕ) → list_all in_line text ≡ true → IsTagValue text
 known_value [] e = tt
 known_value (b ∷ text) e = let both = and_parts (in_line b) (list_all in_line text) e in (both.0, known_value text both.1)
 

@@ -11,7 +11,7 @@ use Rattle.chess_items.proofs.LocalLemmas.{text_shorter}
 use Rattle.chess_tree.specs.Forest.{Forest, Bare, Node, height, moves_held}
 use Rattle.chess_pgn.proofs.ExceedLemmas.{held_append}
 use Rattle.chess_pgn.specs.Games.{Game}
-use Rattle.chess_pgn.specs.Grammar.{Element, Close, Text, Line, End, Skip, Annotate, Say, Play, Vary, Part, elements, elements_of, meaning, move_in, nothing, said, varied, with_annotation, with_move_first, ◌>>=◌}
+use Rattle.chess_pgn.specs.Grammar.{Element, Close, Text, LineSyntax, End, Skip, Annotate, Say, Play, Vary, Addition, elements, elements_of, meaning, move_in, nothing, said, varied, with_annotation, with_move_first, ◌>>=◌}
 use Rattle.chess_pgn.specs.Reading.{BeginsWithGame}
 
 -- ---- words
@@ -70,27 +70,27 @@ bound : {A B : Type 0} (o : Option A) (next : A → Option B) (y : B) → (o >>=
 bound None next y e = absurd cc
 bound (Some x) next y e = (x, refl, e)
 
-abbrev held : Part → ℕ
+abbrev held : Addition → ℕ
 held r = moves_held r.beside + moves_held r.below
 
-varied_held : (f : Forest) (text : List ℕ) (r : Part) → held (varied f text r) ≤ moves_held f + held r
+varied_held : (f : Forest) (text : List ℕ) (r : Addition) → held (varied f text r) ≤ moves_held f + held r
 varied_held Bare text r = omega arith
 varied_held (Node m nags c below next) text r = (let h = held_append next r.beside in omega (arith, h))
 
-meaning_held : (line : Line) (before : Option PositionParts) (here : PositionParts) (r : Part) → meaning line before here ≡ Some r → held r ≤ texts (elements_of line)
-meaning_held End before here r e = subst (λ (x : Part). held x ≤ 0) (some_is nothing r e) (omega arith)
+meaning_held : (line : LineSyntax) (before : Option PositionParts) (here : PositionParts) (r : Addition) → meaning line before here ≡ Some r → held r ≤ texts (elements_of line)
+meaning_held End before here r e = subst (λ (x : Addition). held x ≤ 0) (some_is nothing r e) (omega arith)
 meaning_held (Skip line) before here r e = meaning_held line before here r e
 meaning_held (Annotate n line) before here r e =
     let b = bound (meaning line before here) (λ r. Some (with_annotation n r)) r e in
-    subst (λ (x : Part). held x ≤ texts (elements_of line)) (some_is (with_annotation n b.0) r b.2) (meaning_held line before here b.0 b.1)
+    subst (λ (x : Addition). held x ≤ texts (elements_of line)) (some_is (with_annotation n b.0) r b.2) (meaning_held line before here b.0 b.1)
 meaning_held (Say text line) before here r e =
     let b = bound (meaning line before here) (λ r. Some (said text r)) r e in
-    subst (λ (x : Part). held x ≤ texts (elements_of line)) (some_is (said text b.0) r b.2) (meaning_held line before here b.0 b.1)
+    subst (λ (x : Addition). held x ≤ texts (elements_of line)) (some_is (said text b.0) r b.2) (meaning_held line before here b.0 b.1)
 meaning_held (Play word line) before here r e =
     let a = bound (move_in here word) (λ m. meaning line (Some here) (after here m) >>= λ r. Some (with_move_first m r)) r e in
     let b = bound (meaning line (Some here) (after here a.0)) (λ r. Some (with_move_first a.0 r)) r a.2 in
     let h = meaning_held line (Some here) (after here a.0) b.0 b.1 in
-    subst (λ (x : Part). held x ≤ suc (texts (elements_of line))) (some_is (with_move_first a.0 b.0) r b.2) (omega (arith, h))
+    subst (λ (x : Addition). held x ≤ suc (texts (elements_of line))) (some_is (with_move_first a.0 b.0) r b.2) (omega (arith, h))
 meaning_held (Vary variation line) None here r e = absurd cc
 meaning_held (Vary variation line) (Some p) here r e =
     let a = bound (meaning variation None p) (λ v. meaning line (Some p) here >>= λ r. Some (varied v.below v.comment r)) r e in
@@ -99,7 +99,7 @@ meaning_held (Vary variation line) (Some p) here r e =
     let k = meaning_held line (Some p) here b.0 b.1 in
     let v = varied_held a.0.below a.0.comment b.0 in
     let t = texts_append (elements_of variation) (Close ∷ elements_of line) in
-    subst (λ (x : Part). held x ≤ texts (elements_of variation ++ Close ∷ elements_of line)) (some_is (varied a.0.below a.0.comment b.0) r b.2) (omega (arith, h, k, v, t))
+    subst (λ (x : Addition). held x ≤ texts (elements_of variation ++ Close ∷ elements_of line)) (some_is (varied a.0.below a.0.comment b.0) r b.2) (omega (arith, h, k, v, t))
 
 pub few_moves : (input : List ℕ) (game : Game) (used : ℕ) → BeginsWithGame input game used → moves_held game.tree.below ≤ 524288
 few_moves input game used x =

@@ -3,7 +3,7 @@ use Rattle.std.proofs.Common.{◌≡◌, ℕ, List, [], Option, Some, None, refl
 use Rattle.chess_types.specs.board.Position.{PositionParts}
 use Rattle.chess_items.proofs.FoundLemmas.{some_is}
 use Rattle.chess_tree.specs.Forest.{Forest, Bare}
-use Rattle.chess_pgn.specs.Grammar.{Derives, Element, Part, comments_joined, meaning, ◌>>=◌}
+use Rattle.chess_pgn.specs.Grammar.{Derives, Element, Addition, comments_joined, meaning, ◌>>=◌}
 use Rattle.chess_pgn.specs.steps.Elements.{run}
 use Rattle.chess_pgn.proofs.MeetLemmas.{Answer, ended, finish, meets}
 use Rattle.chess_pgn.proofs.ParseLemmas.{Lines, LastLine, More, Bad, parse, parse-of, parse-back}
@@ -12,7 +12,7 @@ use Rattle.chess_pgn.proofs.ParseLemmas.{Lines, LastLine, More, Bad, parse, pars
 abbrev pub outcome : List Element → PositionParts → List ℕ → Answer
 outcome es start before = run es [] Bare [] None start before []
 
-abbrev given : List ℕ → Part → List ℕ × Forest
+abbrev given : List ℕ → Addition → List ℕ × Forest
 given before r = ended [] Bare [] None before r
 
 abbrev pair : List ℕ → Forest → Answer
@@ -23,7 +23,7 @@ pair_is c d f g e =
     let p = some_is {A = List ℕ × Forest} (c, f) (d, g) e in
     (ap (λ (x : List ℕ × Forest). x.0) p, ap (λ (x : List ℕ × Forest). x.1) p)
 
-part_back : (o : Option Part) (before c : List ℕ) (f : Forest) → (o >>= λ r. Some (given before r)) ≡ Some (c, f) → (r : Part) × (o ≡ Some r) × (c ≡ comments_joined before r.comment) × (f ≡ r.below)
+part_back : (o : Option Addition) (before c : List ℕ) (f : Forest) → (o >>= λ r. Some (given before r)) ≡ Some (c, f) → (r : Addition) × (o ≡ Some r) × (c ≡ comments_joined before r.comment) × (f ≡ r.below)
 part_back None before c f e = absurd cc
 part_back (Some r) before c f e = let p = pair_is (comments_joined before r.comment) c r.below f e in (r, refl, sym p.0, sym p.1)
 
@@ -44,7 +44,7 @@ read_again es start before c f d =
     meets es [] Bare [] None start before [] tt tt
     ∙ ap (λ (x : List Element). finish (parse x) [] Bare [] None start before []) d.spelled
     ∙ ap (λ (x : Lines). finish x [] Bare [] None start before []) (parse-of d.line)
-    ∙ ap (λ (o : Option Part). o >>= λ r. Some (given before r)) d.means
+    ∙ ap (λ (o : Option Addition). o >>= λ r. Some (given before r)) d.means
     ∙ ap (λ (x : List ℕ). pair x d.part.below) (sym d.remarks)
     ∙ ap (pair c) (sym d.tree)
 

@@ -14,7 +14,7 @@ use Rattle.chess_tree.specs.Forest.{Forest, Bare, Node, append, below_at, count,
 use Rattle.chess_tree.specs.GameTree.{TreeParts, at_path, line_to, moves_along}
 use Rattle.chess_tree.specs.WellFormed.{IsGameTree, Leads}
 use Rattle.chess_tree.proofs.EditLemmas.{held_with_move, path_le_height}
-use Rattle.chess_pgn.specs.Grammar.{Element, Number, Annotation, Remark, Open, Close, Text, Part, comments_joined, move_in, ◌>>=◌}
+use Rattle.chess_pgn.specs.Grammar.{Element, Number, Annotation, Remark, Open, Close, Text, Addition, comments_joined, move_in, ◌>>=◌}
 use Rattle.chess_pgn.specs.steps.Elements.{Frame, Last, end_of, last_of, run}
 use Rattle.chess_pgn.specs.steps.Hanging.{hang, leaf, nag, on_node, say}
 use Rattle.chess_pgn.specs.steps.Readings.{AtLimit, HoldsReading, IsRoomFault, Reading, forest_at, goes_on, said_here}
@@ -46,7 +46,7 @@ bound : (o : Option MoveParts) (next : MoveParts → Option (List ℕ × Forest)
 bound None next x e = absurd cc
 bound (Some m) next x e = (m, e)
 
-module _ (P : Forest → Type 0) (kept : (p : List ℕ) (r : Part) (f : Forest) → P f → P (hang p r f)) where
+module _ (P : Forest → Type 0) (kept : (p : List ℕ) (r : Addition) (f : Forest) → P f → P (hang p r f)) where
   run_keeps : (es : List Element) (c : List ℕ) (f : Forest) (up : List ℕ) (l : Last) (here : PositionParts) (lead : List ℕ) (st : List Frame) (d : List ℕ) (g : Forest)
       → run es c f up l here lead st ≡ Some (d, g) → P f → P g
   run_keeps [] c f up None here lead [] d g e h = subst P (second_is (comments_joined c lead) d f g e) h
@@ -84,7 +84,7 @@ pub held_append : (f g : Forest) → moves_held (append f g) ≡ moves_held f + 
 held_append Bare g = omega arith
 held_append (Node m n c b next) g = omega (arith, held_append next g)
 
-held_on_node : (i : ℕ) (r : Part) (f : Forest) → moves_held f ≤ moves_held (on_node i r f)
+held_on_node : (i : ℕ) (r : Addition) (f : Forest) → moves_held f ≤ moves_held (on_node i r f)
 held_on_node i r Bare = omega arith
 held_on_node zero r (Node m n c b next) = omega (arith, held_append b r.below)
 held_on_node (suc i) r (Node m n c b next) = omega (arith, held_on_node i r next)
@@ -95,7 +95,7 @@ held_inside zero g (Node m n c b next) h = omega (arith, h b)
 held_inside (suc i) g (Node m n c b next) h = omega (arith, held_inside i g next h)
 
 -- a part that is added takes none away
-held_hang : (p : List ℕ) (r : Part) (f : Forest) → moves_held f ≤ moves_held (hang p r f)
+held_hang : (p : List ℕ) (r : Addition) (f : Forest) → moves_held f ≤ moves_held (hang p r f)
 held_hang [] r f = omega (arith, held_append f r.below)
 held_hang (i ∷ []) r f = omega (arith, held_on_node i r f, held_append (on_node i r f) r.beside)
 held_hang (i ∷ j ∷ p) r f = held_inside i (hang (j ∷ p) r) f (held_hang (j ∷ p) r)
@@ -126,7 +126,7 @@ record Grown (n : ℕ) (q : List ℕ) (f : Forest) : Type 0 where
   held : n ≤ moves_held f
   there : Leads q f
 
-grown_kept : (n : ℕ) (q p : List ℕ) (r : Part) (f : Forest) → Grown n q f → Grown n q (hang p r f)
+grown_kept : (n : ℕ) (q p : List ℕ) (r : Addition) (f : Forest) → Grown n q f → Grown n q (hang p r f)
 grown_kept n q p r f g = record { held = (let a = g.held in let b = held_hang p r f in omega (arith, a, b)); there = keeps p q r f g.there }
 
 grown_new : (p : List ℕ) (m : MoveParts) (f : Forest) → Leads p f → Grown (moves_held f + 1) (p ++ count (below_at p f) ∷ []) (hang p (leaf m) f)

@@ -20,7 +20,7 @@ use Rattle.chess_fen.specs.declared.fault.FenFault.{FenFault}
 use Rattle.chess_fen.proofs.BackLemmas.{read_back}
 use Rattle.chess_fen.proofs.PartLemmas.{Above, Above-append, Above-joined, Above-less}
 use Rattle.chess_fen.proofs.PlacementLemmas.{placement_text-word}
-use Rattle.chess_pgn.specs.Laws.{IsValue}
+use Rattle.chess_pgn.specs.Laws.{IsTagValue}
 
 -- ---- no part of it has a line feed
 
@@ -68,11 +68,11 @@ written_above p clock number =
 above_in_line : (b : ℕ) → 31 < b → in_line b ≡ true
 above_in_line b high = grind (arith, nat_tests, high)
 
-above_value : (text : List ℕ) → Above 31 text → IsValue text
+above_value : (text : List ℕ) → Above 31 text → IsTagValue text
 above_value [] high = tt
 above_value (b ∷ text) high = (above_in_line b high.0, above_value text high.1)
 
-pub fen_value : (p : PositionParts) → p.clock ≤ 99999 → p.number ≤ 99999 → IsValue (written p)
+pub fen_value : (p : PositionParts) → p.clock ≤ 99999 → p.number ≤ 99999 → IsTagValue (written p)
 fen_value p clock number = above_value (written p) (written_above p clock number)
 
 -- ---- it is read again

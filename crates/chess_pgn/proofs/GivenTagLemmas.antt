@@ -11,7 +11,7 @@ use Rattle.chess_items.specs.declared.outcome.Outcome.TheVariants.{WhiteWins, Bl
 use Rattle.chess_fen.specs.Reading.{fen_reading}
 use Rattle.chess_fen.specs.Writing.{written}
 use Rattle.chess_pgn.specs.Games.{Tags, tag_in}
-use Rattle.chess_pgn.specs.Laws.{HasTagTexts, IsOther, IsValue}
+use Rattle.chess_pgn.specs.Laws.{HasTagTexts, IsOther, IsTagValue}
 use Rattle.chess_pgn.specs.Tags.{HasTags, is_own, start_in}
 use Rattle.chess_items.specs.Markers.{outcome_text}
 use Rattle.chess_pgn.specs.Written.{other_tags_text, is_before, is_within, others_text, tag_text, tags_text}
@@ -136,7 +136,7 @@ either_good : (v : Bool) (xs ys : Given) → AreGood xs → AreGood ys → AreGo
 either_good true xs ys p q = p
 either_good false xs ys p q = q
 
-behind_good : (others : Given) (fen : List ℕ) → AllByRecursion IsOther others → IsValue fen → AreGood (behind_given others fen)
+behind_good : (others : Given) (fen : List ℕ) → AllByRecursion IsOther others → IsTagValue fen → AreGood (behind_given others fen)
 unfolding is_name_byte is_digit
 behind_good others fen are in_it =
     either_good (bytes_eq fen (written start)) _ _ (within_good [] None others are)
@@ -159,7 +159,7 @@ given_is tags outcome p =
     tag_text (codes "Event") tags.event ++ (tag_text (codes "Site") tags.site ++ (tag_text (codes "Date") tags.date ++ (tag_text (codes "Round") tags.round ++ (tag_text (codes "White") tags.white ++ (tag_text (codes "Black") tags.black ++ (tag_text (codes "Result") (outcome_text outcome) ++ x)))))))
     (behind_is tags.others (written p))
 
-outcome_value : (outcome : Outcome) → IsValue (outcome_text outcome)
+outcome_value : (outcome : Outcome) → IsTagValue (outcome_text outcome)
 outcome_value WhiteWins = (refl, (refl, (refl, tt)))
 outcome_value BlackWins = (refl, (refl, (refl, tt)))
 outcome_value Draw = (refl, (refl, (refl, (refl, (refl, (refl, (refl, tt)))))))
@@ -169,7 +169,7 @@ pub event_good : (tags : Tags) → HasTagTexts tags → IsGood (event_tag tags)
 unfolding is_name_byte is_digit
 event_good tags has = (is_name _ _ refl, has.event)
 
-pub given_good : (tags : Tags) (outcome : Outcome) (p : PositionParts) → HasTagTexts tags → IsValue (written p) → AreGood (given_of tags outcome p)
+pub given_good : (tags : Tags) (outcome : Outcome) (p : PositionParts) → HasTagTexts tags → IsTagValue (written p) → AreGood (given_of tags outcome p)
 unfolding is_name_byte is_digit
 given_good tags outcome p has in_it =
     ((is_name _ _ refl, has.site), ((is_name _ _ refl, has.date), ((is_name _ _ refl, has.round), ((is_name _ _ refl, has.white), ((is_name _ _ refl, has.black), ((is_name _ _ refl, outcome_value outcome), behind_good tags.others (written p) has.others in_it))))))

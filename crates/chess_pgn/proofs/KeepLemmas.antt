@@ -4,7 +4,7 @@ use Rattle.chess_types.specs.board.MoveParts.{MoveParts}
 use Rattle.chess_tree.specs.Forest.{Forest, Bare, Node, append, count, below_at, below_child}
 use Rattle.chess_tree.specs.Edits.{inside}
 use Rattle.chess_tree.specs.WellFormed.{Leads}
-use Rattle.chess_pgn.specs.Grammar.{Part}
+use Rattle.chess_pgn.specs.Grammar.{Addition}
 use Rattle.chess_pgn.specs.steps.Hanging.{on_node, hang, leaf}
 use Rattle.chess_pgn.proofs.HangLemmas.{append-bare}
 
@@ -21,7 +21,7 @@ at-append : (q : List ℕ) (f g : Forest) → Leads q f → Leads q (append f g)
 at-append [] f g at = tt
 at-append (j ∷ q) f g at = (omega (arith, count-append f g, at.0), rw (child-append j f g at.0) at.1)
 
-count-on_node : (i : ℕ) (r : Part) (f : Forest) → count (on_node i r f) ≡ count f
+count-on_node : (i : ℕ) (r : Addition) (f : Forest) → count (on_node i r f) ≡ count f
 count-on_node i r Bare = refl
 count-on_node zero r (Node m n c b next) = refl
 count-on_node (suc i) r (Node m n c b next) = ap suc (count-on_node i r next)
@@ -31,7 +31,7 @@ count-inside i g Bare = refl
 count-inside zero g (Node m n c b next) = refl
 count-inside (suc i) g (Node m n c b next) = ap suc (count-inside i g next)
 
-pub child-on_node : (i : ℕ) (r : Part) (f : Forest) → i < count f → below_child i (on_node i r f) ≡ append (below_child i f) r.below
+pub child-on_node : (i : ℕ) (r : Addition) (f : Forest) → i < count f → below_child i (on_node i r f) ≡ append (below_child i f) r.below
 child-on_node i r Bare h = absurd (omega arith)
 child-on_node zero r (Node m n c b next) h = refl
 child-on_node (suc i) r (Node m n c b next) h = child-on_node i r next (omega arith)
@@ -42,7 +42,7 @@ child-inside zero g (Node m n c b next) h = refl
 child-inside (suc i) g (Node m n c b next) h = child-inside i g next (omega arith)
 
 -- the nodes below one stay below it, or are more
-below-on_node : (i j : ℕ) (q : List ℕ) (r : Part) (f : Forest) → Leads q (below_child j f) → Leads q (below_child j (on_node i r f))
+below-on_node : (i j : ℕ) (q : List ℕ) (r : Addition) (f : Forest) → Leads q (below_child j f) → Leads q (below_child j (on_node i r f))
 below-on_node i j q r Bare at = at
 below-on_node zero zero q r (Node m n c b next) at = at-append q b r.below at
 below-on_node zero (suc j) q r (Node m n c b next) at = at
@@ -56,7 +56,7 @@ below-inside zero (suc j) q g (Node m n c b next) k at = at
 below-inside (suc i) zero q g (Node m n c b next) k at = at
 below-inside (suc i) (suc j) q g (Node m n c b next) k at = below-inside i j q g next k at
 
-pub keeps : (p q : List ℕ) (r : Part) (f : Forest) → Leads q f → Leads q (hang p r f)
+pub keeps : (p q : List ℕ) (r : Addition) (f : Forest) → Leads q f → Leads q (hang p r f)
 keeps [] q r f at = at-append q f r.below at
 keeps (i ∷ []) [] r f at = tt
 keeps (i ∷ []) (j ∷ q) r f at = at-append (j ∷ q) (on_node i r f) r.beside (rw (count-on_node i r f) (at.0), below-on_node i j q r f at.1)

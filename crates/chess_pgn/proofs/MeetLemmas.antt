@@ -5,7 +5,7 @@ use Rattle.chess_types.specs.board.Position.{PositionParts}
 use Rattle.chess_types.specs.board.After.{after}
 use Rattle.chess_tree.specs.Forest.{Forest, Bare, Node, count, below_at, below_child}
 use Rattle.chess_tree.specs.WellFormed.{Leads}
-use Rattle.chess_pgn.specs.Grammar.{Element, Number, Annotation, Remark, Open, Close, Text, Line, Skip, Annotate, Say, Play, Part, nothing, with_annotation, said, with_move_first, with_opening_comment, varied, comments_joined, move_in, ◌>>=◌, meaning}
+use Rattle.chess_pgn.specs.Grammar.{Element, Number, Annotation, Remark, Open, Close, Text, LineSyntax, Skip, Annotate, Say, Play, Addition, nothing, with_annotation, said, with_move_first, with_opening_comment, varied, comments_joined, move_in, ◌>>=◌, meaning}
 use Rattle.chess_pgn.specs.steps.Hanging.{hang, leaf, grown, nag, say, beside, below, plus}
 use Rattle.chess_pgn.specs.steps.Elements.{Frame, Last, path_of, last_of, end_of, before_of, run}
 use Rattle.chess_pgn.proofs.HangLemmas.{joined-nil, joined-assoc, hang-twice, hang-down, hang-up, hang-nothing}
@@ -21,7 +21,7 @@ AllThere (x ∷ xs) f = Leads (path_of x) f × AllThere xs f
 
 -- ---- the same by the syntax of what is left
 
-abbrev pub ended : List ℕ → Forest → List ℕ → Last → List ℕ → Part → List ℕ × Forest
+abbrev pub ended : List ℕ → Forest → List ℕ → Last → List ℕ → Addition → List ℕ × Forest
 ended c f up None lead r = (comments_joined c (comments_joined lead r.comment), hang up (below r.below) f)
 ended c f up (Some x) lead r = (c, hang (up ++ x.0 ∷ []) (said lead r) f)
 
@@ -34,11 +34,11 @@ abbrev pub dropped : List ℕ → List ℕ → Forest → List ℕ
 dropped lead t Bare = comments_joined lead t
 dropped lead t (Node m n c b next) = lead
 
-abbrev pub left : Forest → List ℕ → Last → List ℕ → Part → Forest
+abbrev pub left : Forest → List ℕ → Last → List ℕ → Addition → Forest
 left f up None lead r = leave f up (comments_joined lead r.comment) r.below
 left f up (Some y) lead r = hang (up ++ y.0 ∷ []) (said lead r) f
 
-abbrev pub lead_left : Last → List ℕ → Frame → Part → List ℕ
+abbrev pub lead_left : Last → List ℕ → Frame → Addition → List ℕ
 lead_left None lead x r = dropped x.lead (comments_joined lead r.comment) r.below
 lead_left (Some y) lead x r = x.lead
 
@@ -66,20 +66,20 @@ bind-two (Some s) (Some r) g k j e = e s r
 
 -- ---- an element that opens and closes nothing
 
-abbrev Goes : (Line → Line) → (Part → Part) → Option PositionParts → PositionParts → Option PositionParts → PositionParts → Type 0
-Goes F g b here b' here' = (l : Line) → meaning (F l) b here ≡ (meaning l b' here' >>= λ r. Some (g r))
+abbrev Goes : (LineSyntax → LineSyntax) → (Addition → Addition) → Option PositionParts → PositionParts → Option PositionParts → PositionParts → Type 0
+Goes F g b here b' here' = (l : LineSyntax) → meaning (F l) b here ≡ (meaning l b' here' >>= λ r. Some (g r))
 
-at-root : (F : Line → Line) (g : Part → Part) (ls : Lines) (c c' : List ℕ) (f f' : Forest) (up up' : List ℕ) (last last' : Last) (here here' : PositionParts) (lead lead' : List ℕ)
-    → Goes F g (before_of last) here (before_of last') here' → ((r : Part) → ended c f up last lead (g r) ≡ ended c' f' up' last' lead' r)
+at-root : (F : LineSyntax → LineSyntax) (g : Addition → Addition) (ls : Lines) (c c' : List ℕ) (f f' : Forest) (up up' : List ℕ) (last last' : Last) (here here' : PositionParts) (lead lead' : List ℕ)
+    → Goes F g (before_of last) here (before_of last') here' → ((r : Addition) → ended c f up last lead (g r) ≡ ended c' f' up' last' lead' r)
     → finish ls c' f' up' last' here' lead' [] ≡ finish (first F ls) c f up last here lead []
 at-root F g (LastLine l) c c' f f' up up' last last' here here' lead lead' goes same =
     sym (rw (goes l) (bind-map (meaning l (before_of last') here') g (λ r. Some (ended c f up last lead r)) (λ r. Some (ended c' f' up' last' lead' r)) (λ r. ap (λ (x : List ℕ × Forest). Some x) (same r))))
 at-root F g (More l ls) c c' f f' up up' last last' here here' lead lead' goes same = refl
 at-root F g Bad c c' f f' up up' last last' here here' lead lead' goes same = refl
 
-in-frame : (F : Line → Line) (g : Part → Part) (ls : Lines) (c : List ℕ) (f f' : Forest) (up up' : List ℕ) (last last' : Last) (here here' : PositionParts) (lead lead' : List ℕ) (x : Frame) (xs : List Frame)
+in-frame : (F : LineSyntax → LineSyntax) (g : Addition → Addition) (ls : Lines) (c : List ℕ) (f f' : Forest) (up up' : List ℕ) (last last' : Last) (here here' : PositionParts) (lead lead' : List ℕ) (x : Frame) (xs : List Frame)
     → Goes F g (before_of last) here (before_of last') here'
-    → ((r : Part) → (left f up last lead (g r) ≡ left f' up' last' lead' r) × (lead_left last lead x (g r) ≡ lead_left last' lead' x r))
+    → ((r : Addition) → (left f up last lead (g r) ≡ left f' up' last' lead' r) × (lead_left last lead x (g r) ≡ lead_left last' lead' x r))
     → finish ls c f' up' last' here' lead' (x ∷ xs) ≡ finish (first F ls) c f up last here lead (x ∷ xs)
 in-frame F g (LastLine l) c f f' up up' last last' here here' lead lead' x xs goes same = refl
 in-frame F g (More l ls) c f f' up up' last last' here here' lead lead' x xs goes same =
@@ -90,7 +90,7 @@ in-frame F g Bad c f f' up up' last last' here here' lead lead' x xs goes same =
 goes-skip : (b : Option PositionParts) (here : PositionParts) → Goes Skip (λ r. r) b here b here
 goes-skip b here l = same (meaning l b here)
   where
-    same : (o : Option Part) → o ≡ (o >>= λ r. Some r)
+    same : (o : Option Addition) → o ≡ (o >>= λ r. Some r)
     same None = refl
     same (Some r) = refl
 
@@ -99,17 +99,17 @@ goes-play w m b here e l = rw e refl
 
 -- ---- comments
 
-said-said : (a t : List ℕ) (r : Part) → said (comments_joined a t) r ≡ said a (said t r)
+said-said : (a t : List ℕ) (r : Addition) → said (comments_joined a t) r ≡ said a (said t r)
 said-said a t r = ap (λ (z : List ℕ). record { nags = r.nags; comment = z; beside = r.beside; below = r.below }) (joined-assoc a t r.comment)
 
-said-first : (lead : List ℕ) (m : MoveParts) (r : Part) → said lead (with_move_first m r) ≡ plus (say lead) (grown m r)
+said-first : (lead : List ℕ) (m : MoveParts) (r : Addition) → said lead (with_move_first m r) ≡ plus (say lead) (grown m r)
 said-first lead m r = refl
 
 -- ---- a variation
 
-vary-hang : (g : Forest) (t : List ℕ) (r : Part) (f : Forest) (x : Frame) → Leads (path_of x) f
+vary-hang : (g : Forest) (t : List ℕ) (r : Addition) (f : Forest) (x : Frame) → Leads (path_of x) f
     → hang (path_of x) (said (dropped x.lead t g) r) (leave f x.up t g) ≡ hang (path_of x) (said x.lead (varied g t r)) f
-vary-hang Bare t r f x at = ap (λ (s : Part). hang (path_of x) s f) (said-said x.lead t r)
+vary-hang Bare t r f x at = ap (λ (s : Addition). hang (path_of x) s f) (said-said x.lead t r)
 vary-hang (Node m n c b next) t r f x at =
     let g : Forest = with_opening_comment t (Node m n c b next) in
     ap (hang (path_of x) (said x.lead r)) (hang-up x.up x.place g f) ∙ hang-twice (path_of x) (beside g) (said x.lead r) f at
@@ -166,7 +166,7 @@ pub at-prefix : (q : List ℕ) (i : ℕ) (f : Forest) → Leads (q ++ i ∷ []) 
 at-prefix [] i f at = tt
 at-prefix (j ∷ q) i f at = (at.0, at-prefix q i (below_child j f) at.1)
 
-pub keeps-all : (p : List ℕ) (r : Part) (st : List Frame) (f : Forest) → AllThere st f → AllThere st (hang p r f)
+pub keeps-all : (p : List ℕ) (r : Addition) (st : List Frame) (f : Forest) → AllThere st f → AllThere st (hang p r f)
 keeps-all p r [] f all = tt
 keeps-all p r (x ∷ xs) f all = (keeps p (path_of x) r f all.0, keeps-all p r xs f all.1)
 
@@ -185,7 +185,7 @@ inner-done w m ls c f up here lead x xs e at =
     in-frame (Play w) (with_move_first m) ls c f (hang up (leaf m) f) up up None (Some (count (below_at up f), here)) here (after here m) lead lead x xs (goes-play w m None here e)
     (λ r. (rw (joined-nil lead) (sym (hang-down up m (said lead r) f at)), refl))
 
-then-hang : (p : List ℕ) (m : MoveParts) (lead : List ℕ) (r : Part) (f : Forest) → Leads p f
+then-hang : (p : List ℕ) (m : MoveParts) (lead : List ℕ) (r : Addition) (f : Forest) → Leads p f
     → hang p (said lead (with_move_first m r)) f ≡ hang (p ++ count (below_at p (hang p (say lead) f)) ∷ []) r (hang p (leaf m) (hang p (say lead) f))
 then-hang p m lead r f at =
     let g : Forest = hang p (say lead) f in
@@ -240,11 +240,11 @@ meets (Remark t ∷ ts) c f up None here lead (x ∷ xs) at all =
 meets (Remark t ∷ ts) c f up (Some y) here lead [] at all =
     let p : List ℕ = up ++ y.0 ∷ [] in
     meets ts c f up (Some y) here (comments_joined lead t) [] at tt
-    ∙ at-root (Say t) (said t) (parse ts) c c f f up up (Some y) (Some y) here here lead (comments_joined lead t) (λ l. refl) (λ r. ap (λ (z : Part). (c, hang p z f)) (sym (said-said lead t r)))
+    ∙ at-root (Say t) (said t) (parse ts) c c f f up up (Some y) (Some y) here here lead (comments_joined lead t) (λ l. refl) (λ r. ap (λ (z : Addition). (c, hang p z f)) (sym (said-said lead t r)))
 meets (Remark t ∷ ts) c f up (Some y) here lead (x ∷ xs) at all =
     let p : List ℕ = up ++ y.0 ∷ [] in
     meets ts c f up (Some y) here (comments_joined lead t) (x ∷ xs) at all
-    ∙ in-frame (Say t) (said t) (parse ts) c f f up up (Some y) (Some y) here here lead (comments_joined lead t) x xs (λ l. refl) (λ r. (ap (λ (z : Part). hang p z f) (sym (said-said lead t r)), refl))
+    ∙ in-frame (Say t) (said t) (parse ts) c f f up up (Some y) (Some y) here here lead (comments_joined lead t) x xs (λ l. refl) (λ r. (ap (λ (z : Addition). hang p z f) (sym (said-said lead t r)), refl))
 meets (Text w ∷ ts) c f up None here lead [] at all =
     by-move (move_in here w) _ (finish (first (Play w) (parse ts)) c f up None here lead []) (not-played w (parse ts) c f up None here lead [])
     (λ m e. meets ts (comments_joined c lead) (hang up (leaf m) f) up (Some (count (below_at up f), here)) (after here m) [] [] (new-there up m f at) tt

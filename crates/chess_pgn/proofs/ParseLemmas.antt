@@ -1,15 +1,15 @@
 -- The one syntax of a list of elements, found from its end.
 use Rattle.std.proofs.Common.{◌≡◌, ◌≢◌, List, [], ◌∷◌, ◌++◌, refl, sym, ap, ◌∙◌, append_assoc}
 use Rattle.std.proofs.lemmas.List.{append-nil}
-use Rattle.chess_pgn.specs.Grammar.{Element, Number, Annotation, Remark, Open, Close, Text, Line, End, Skip, Annotate, Say, Play, Vary, elements_of}
+use Rattle.chess_pgn.specs.Grammar.{Element, Number, Annotation, Remark, Open, Close, Text, LineSyntax, End, Skip, Annotate, Say, Play, Vary, elements_of}
 
 -- the lines that elements end, the innermost first; Bad where a variation is never closed
 pub data Lines : Type 0 where
-  LastLine : Line → Lines
-  More : Line → Lines → Lines
+  LastLine : LineSyntax → Lines
+  More : LineSyntax → Lines → Lines
   Bad : Lines
 
-abbrev pub first : (Line → Line) → Lines → Lines
+abbrev pub first : (LineSyntax → LineSyntax) → Lines → Lines
 first f (LastLine l) = LastLine (f l)
 first f (More l ls) = More (f l) ls
 first f Bad = Bad
@@ -35,7 +35,7 @@ parse (Text w ∷ ts) = first (Play w) (parse ts)
 parse (Open ∷ ts) = open_one (parse ts)
 parse (Close ∷ ts) = close_one (parse ts)
 
-abbrev pub then : Line → Line → Line
+abbrev pub then : LineSyntax → LineSyntax → LineSyntax
 then End l = l
 then (Skip k) l = Skip (then k l)
 then (Annotate n k) l = Annotate n (then k l)
@@ -43,7 +43,7 @@ then (Say t k) l = Say t (then k l)
 then (Play w k) l = Play w (then k l)
 then (Vary v k) l = Vary v (then k l)
 
-then-end : (l : Line) → then l End ≡ l
+then-end : (l : LineSyntax) → then l End ≡ l
 then-end End = refl
 then-end (Skip l) = ap Skip (then-end l)
 then-end (Annotate n l) = ap (Annotate n) (then-end l)
@@ -56,17 +56,17 @@ first-id (LastLine l) = refl
 first-id (More l ls) = refl
 first-id Bad = refl
 
-first-first : (f g : Line → Line) (ls : Lines) → first f (first g ls) ≡ first (λ l. f (g l)) ls
+first-first : (f g : LineSyntax → LineSyntax) (ls : Lines) → first f (first g ls) ≡ first (λ l. f (g l)) ls
 first-first f g (LastLine l) = refl
 first-first f g (More l ls) = refl
 first-first f g Bad = refl
 
-open-close : (v : Line) (ls : Lines) → open_one (first (then v) (close_one ls)) ≡ first (Vary v) ls
-open-close v (LastLine l) = ap (λ (x : Line). LastLine (Vary x l)) (then-end v)
-open-close v (More l ls) = ap (λ (x : Line). More (Vary x l) ls) (then-end v)
+open-close : (v : LineSyntax) (ls : Lines) → open_one (first (then v) (close_one ls)) ≡ first (Vary v) ls
+open-close v (LastLine l) = ap (λ (x : LineSyntax). LastLine (Vary x l)) (then-end v)
+open-close v (More l ls) = ap (λ (x : LineSyntax). More (Vary x l) ls) (then-end v)
 open-close v Bad = refl
 
-pub parse-line : (l : Line) (ts : List Element) → parse (elements_of l ++ ts) ≡ first (then l) (parse ts)
+pub parse-line : (l : LineSyntax) (ts : List Element) → parse (elements_of l ++ ts) ≡ first (then l) (parse ts)
 parse-line End ts = sym (first-id (parse ts))
 parse-line (Skip l) ts = ap (first Skip) (parse-line l ts) ∙ first-first Skip (then l) (parse ts)
 parse-line (Annotate n l) ts = ap (first (Annotate n)) (parse-line l ts) ∙ first-first (Annotate n) (then l) (parse ts)
@@ -80,7 +80,7 @@ parse-line (Vary v l) ts =
     ∙ first-first (Vary v) (then l) (parse ts)
 
 -- a line's elements have that syntax
-pub parse-of : (l : Line) → parse (elements_of l) ≡ LastLine l
+pub parse-of : (l : LineSyntax) → parse (elements_of l) ≡ LastLine l
 parse-of l = ap parse (sym (append-nil (elements_of l))) ∙ parse-line l [] ∙ ap LastLine (then-end l)
 
 -- the elements of lines
@@ -96,12 +96,12 @@ yield-open (More v (More l ls)) h = ap (λ (x : List Element). Open ∷ x) (appe
 yield-open (More v Bad) h = absurd (h refl)
 yield-open Bad h = absurd (h refl)
 
-yield-first : (f : Line → Line) (t : Element) (ls : Lines) → ((l : Line) → elements_of (f l) ≡ t ∷ elements_of l) → ls ≢ Bad → yield (first f ls) ≡ t ∷ yield ls
+yield-first : (f : LineSyntax → LineSyntax) (t : Element) (ls : Lines) → ((l : LineSyntax) → elements_of (f l) ≡ t ∷ elements_of l) → ls ≢ Bad → yield (first f ls) ≡ t ∷ yield ls
 yield-first f t (LastLine l) e h = e l
 yield-first f t (More l ls) e h = ap (λ (x : List Element). x ++ Close ∷ yield ls) (e l)
 yield-first f t Bad e h = absurd (h refl)
 
-first-bad : (f : Line → Line) (ls : Lines) → first f ls ≢ Bad → ls ≢ Bad
+first-bad : (f : LineSyntax → LineSyntax) (ls : Lines) → first f ls ≢ Bad → ls ≢ Bad
 first-bad f (LastLine l) h e = cc
 first-bad f (More l ls) h e = cc
 first-bad f Bad h e = h refl
@@ -131,8 +131,8 @@ yield-parse (Text w ∷ ts) h = let k = first-bad (Play w) (parse ts) h in yield
 yield-parse (Open ∷ ts) h = let k = open-bad (parse ts) h in yield-open (parse ts) h ∙ ap (λ (x : List Element). Open ∷ x) (yield-parse ts k)
 yield-parse (Close ∷ ts) h = let k = close-bad (parse ts) h in yield-close (parse ts) k ∙ ap (λ (x : List Element). Close ∷ x) (yield-parse ts k)
 
-pub parse-back : (ts : List Element) (l : Line) → parse ts ≡ LastLine l → elements_of l ≡ ts
+pub parse-back : (ts : List Element) (l : LineSyntax) → parse ts ≡ LastLine l → elements_of l ≡ ts
 parse-back ts l e = sym (ap yield e) ∙ yield-parse ts (λ b. not-bad l (sym e ∙ b))
   where
-    not-bad : (k : Line) → LastLine k ≡ Bad → ⊥
+    not-bad : (k : LineSyntax) → LastLine k ≡ Bad → ⊥
     not-bad k h = cc

@@ -10,7 +10,7 @@ use Rattle.chess_tree.specs.Forest.{Forest, Bare, Node, NodeParts, append, count
 use Rattle.chess_tree.specs.Edits.{annotated, change_below, change_node, commented, inside, with_move}
 use Rattle.chess_tree.specs.GameTree.{move_of, moves_along, node_of}
 use Rattle.chess_tree.specs.WellFormed.{AreSound, Leads}
-use Rattle.chess_pgn.specs.Grammar.{Part, comments_joined}
+use Rattle.chess_pgn.specs.Grammar.{Addition, comments_joined}
 use Rattle.chess_pgn.specs.steps.Hanging.{hang, leaf, nag, say, on_node}
 use Rattle.chess_pgn.proofs.HangLemmas.{append-bare, joined-nil, inside-same, inside-on_node}
 use Rattle.chess_pgn.proofs.KeepLemmas.{child-append}
@@ -79,7 +79,7 @@ move-append k Bare g h = absurd (omega arith)
 move-append zero (Node m n c b next) g h = refl
 move-append (suc k) (Node m n c b next) g h = move-append k next g (omega arith)
 
-move-on_node : (i k : ℕ) (r : Part) (f : Forest) → move_of k (on_node i r f) ≡ move_of k f
+move-on_node : (i k : ℕ) (r : Addition) (f : Forest) → move_of k (on_node i r f) ≡ move_of k f
 move-on_node i k r Bare = refl
 move-on_node zero zero r (Node m n c b next) = refl
 move-on_node zero (suc k) r (Node m n c b next) = refl
@@ -97,7 +97,7 @@ moves-append : (q : List ℕ) (f g : Forest) → Leads q f → moves_along q (ap
 moves-append [] f g at = refl
 moves-append (j ∷ q) f g at = rw (move-append j f g at.0, child-append j f g at.0) refl
 
-moves-on_node : (i j : ℕ) (q : List ℕ) (r : Part) (f : Forest) → Leads q (below_child j f) → moves_along q (below_child j (on_node i r f)) ≡ moves_along q (below_child j f)
+moves-on_node : (i j : ℕ) (q : List ℕ) (r : Addition) (f : Forest) → Leads q (below_child j f) → moves_along q (below_child j (on_node i r f)) ≡ moves_along q (below_child j f)
 moves-on_node i j q r Bare at = refl
 moves-on_node zero zero q r (Node m n c b next) at = moves-append q b r.below at
 moves-on_node zero (suc j) q r (Node m n c b next) at = refl
@@ -116,7 +116,7 @@ both : (a b : Option MoveParts) (c d : List MoveParts) → a ≡ b → c ≡ d �
 both a b c d e h = rw (e, h) refl
 
 -- what is added at a path changes no move on the way to a place
-pub moves_kept : (p q : List ℕ) (r : Part) (f : Forest) → Leads q f → moves_along q (hang p r f) ≡ moves_along q f
+pub moves_kept : (p q : List ℕ) (r : Addition) (f : Forest) → Leads q f → moves_along q (hang p r f) ≡ moves_along q f
 moves_kept [] q r f at = moves-append q f r.below at
 moves_kept (i ∷ []) [] r f at = refl
 moves_kept (i ∷ []) (j ∷ q) r f at =
@@ -125,7 +125,7 @@ moves_kept (i ∷ []) (j ∷ q) r f at =
     (move-append j (on_node i r f) r.beside on ∙ move-on_node i j r f)
     (ap (moves_along q) (child-append j (on_node i r f) r.beside on) ∙ moves-on_node i j q r f at.1)
   where
-    at_on : (i j : ℕ) (r : Part) (f : Forest) → j < count f → j < count (on_node i r f)
+    at_on : (i j : ℕ) (r : Addition) (f : Forest) → j < count f → j < count (on_node i r f)
     at_on i j r Bare h = h
     at_on zero j r (Node m n c b next) h = h
     at_on (suc i) zero r (Node m n c b next) h = omega arith

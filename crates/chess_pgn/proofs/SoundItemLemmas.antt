@@ -14,7 +14,7 @@ use Rattle.chess_items.specs.Items.{Item, Each, IsSpelled, Spells, in_braces, in
 use Rattle.chess_items.specs.declared.place.Place.{Place}
 use Rattle.chess_tree.specs.Comments.{has_brace}
 use Rattle.chess_pgn.specs.Games.{Tags, tag_in}
-use Rattle.chess_pgn.specs.Laws.{HasTagTexts, IsOther, IsValue}
+use Rattle.chess_pgn.specs.Laws.{HasTagTexts, IsOther, IsTagValue}
 use Rattle.chess_pgn.specs.Tags.{AreTags, AreValueParts, Ascend, HasTags, IsTag, is_own, is_value_part, part_text, value_in, value_text}
 use Rattle.chess_pgn.proofs.TagTextLemmas.{AreGood, IsGood, IsName}
 
@@ -24,7 +24,7 @@ abbrev pub IsSound : Item → Type 0
 IsSound (items.Comment text) = has_brace text ≡ false
 IsSound (items.Nag n) = n < 256
 IsSound (items.Name name) = IsName name
-IsSound (items.Stretch text) = IsValue text
+IsSound (items.Stretch text) = IsTagValue text
 IsSound (items.Escaped b) = in_line b ≡ true
 IsSound _ = Unit {0}
 
@@ -54,7 +54,7 @@ plain_in_line : (b : ℕ) → is_plain b ≡ true → in_line b ≡ true
 unfolding is_plain
 plain_in_line b e = grind (arith, nat_tests, e)
 
-plain_value : (text : List ℕ) → Each is_plain text → IsValue text
+plain_value : (text : List ℕ) → Each is_plain text → IsTagValue text
 plain_value [] e = tt
 plain_value (b ∷ text) e = (plain_in_line b e.0, plain_value text e.1)
 
@@ -85,8 +85,8 @@ item_sound (items.Comment t) text next (inr e) = subst (λ (x : List ℕ). has_b
 item_sound (items.Nag n) text next (inl e) = e.4
 item_sound (items.Nag n) text next (inr e) = glyph_small text n e.1
 item_sound (items.Name name) text next e = record { some = subst (λ (x : List ℕ). x ≢ []) (sym e.1) e.0.some; each = subst (Each items.is_name_byte) (sym e.1) e.0.each }
-item_sound (items.Stretch t) text next (e, inl run) = subst IsValue (sym e) (plain_value text run.each)
-item_sound (items.Stretch t) text next (e, inr slash) = subst IsValue (sym (e ∙ slash.0)) (refl, tt)
+item_sound (items.Stretch t) text next (e, inl run) = subst IsTagValue (sym e) (plain_value text run.each)
+item_sound (items.Stretch t) text next (e, inr slash) = subst IsTagValue (sym (e ∙ slash.0)) (refl, tt)
 item_sound (items.Escaped b) text next e = escapable_in_line b e.0
 item_sound _ text next e = tt
 
@@ -100,15 +100,15 @@ sound_parts (item ∷ prefix) is h = let r = sound_parts prefix is h.1 in ((h.0,
 
 -- ---- the tags among them
 
-value_sound : (parts : List Item) → AreValueParts parts → AreSoundItems parts → IsValue (value_text parts)
+value_sound : (parts : List Item) → AreValueParts parts → AreSoundItems parts → IsTagValue (value_text parts)
 value_sound [] are sound = tt
 value_sound (item ∷ parts) are sound = value_append (part_text item) (value_text parts) (part_value item are.0 sound.0) (value_sound parts are.1 sound.1)
   where
-    value_append : (a b : List ℕ) → IsValue a → IsValue b → IsValue (a ++ b)
+    value_append : (a b : List ℕ) → IsTagValue a → IsTagValue b → IsTagValue (a ++ b)
     value_append [] b h k = k
     value_append (x ∷ a) b h k = (h.0, value_append a b h.1 k)
 
-    part_value : (item : Item) → is_value_part item ≡ true → IsSound item → IsValue (part_text item)
+    part_value : (item : Item) → is_value_part item ≡ true → IsSound item → IsTagValue (part_text item)
     part_value (items.Stretch text) e h = h
     part_value (items.Escaped b) e h = (h, tt)
     part_value _ e h = absurd (false≢true e)
@@ -119,7 +119,7 @@ tag_good own name value is sound =
     let a = sound_parts is.before_name _ all.1 in
     let b = sound_parts is.behind_name _ a.1.1 in
     let c = sound_parts is.parts _ b.1.1 in
-    (a.1.0, subst IsValue (sym is.value_is) (value_sound is.parts is.of_value c.0))
+    (a.1.0, subst IsTagValue (sym is.value_is) (value_sound is.parts is.of_value c.0))
 
 pub tags_good : (is : List Item) (given : List (List ℕ × List ℕ)) → AreTags is given → AreSoundItems is → AreGood given
 tags_good is [] h sound = tt
@@ -139,15 +139,15 @@ found_good name value (tag ∷ given) good e = step (bytes_eq name tag.0) refl e
     value_is x y h = cc
 
     step : (v : Bool) → bytes_eq name tag.0 ≡ v → (if v then Some tag.1 else tag_in name given) ≡ Some value → (tag_in name given ≡ Some value → IsGood (name, value)) → IsGood (name, value)
-    step true h k on = subst (λ (n : List ℕ). IsGood (n, value)) (sym ((bytes_decides name tag.0).0 h)) (good.0.0, subst IsValue (value_is tag.1 value k) good.0.1)
+    step true h k on = subst (λ (n : List ℕ). IsGood (n, value)) (sym ((bytes_decides name tag.0).0 h)) (good.0.0, subst IsTagValue (value_is tag.1 value k) good.0.1)
     step false h k on = on k
 
-or_value : (found : Option (List ℕ)) (text : List ℕ) → ((value : List ℕ) → found ≡ Some value → IsValue value) → IsValue text → IsValue (unwrap_or found text)
+or_value : (found : Option (List ℕ)) (text : List ℕ) → ((value : List ℕ) → found ≡ Some value → IsTagValue value) → IsTagValue text → IsTagValue (unwrap_or found text)
 or_value None text f h = h
 or_value (Some value) text f h = f value refl
 
-own_value : (given : List (List ℕ × List ℕ)) (name text value : List ℕ) → AreGood given → IsValue text → value ≡ value_in given name text → IsValue value
-own_value given name text value good known e = subst IsValue (sym e) (or_value (tag_in name given) text (λ v h. (found_good name v given good h).1) known)
+own_value : (given : List (List ℕ × List ℕ)) (name text value : List ℕ) → AreGood given → IsTagValue text → value ≡ value_in given name text → IsTagValue value
+own_value given name text value good known e = subst IsTagValue (sym e) (or_value (tag_in name given) text (λ v h. (found_good name v given good h).1) known)
 
 -- a name that is found after another ascends
 found_less : (first name value : List ℕ) (tags : List (List ℕ × List ℕ)) → AllByRecursion (λ y. slice_cmp nat_cmp first y ≡ Less) (map (λ (tag : List ℕ × List ℕ). tag.0) tags) → tag_in name tags ≡ Some value → slice_cmp nat_cmp first name ≡ Less

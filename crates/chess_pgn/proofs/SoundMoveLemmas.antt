@@ -22,7 +22,7 @@ use Rattle.chess_san.specs.declared.form.Form.{Form}
 use Rattle.chess_san.specs.Forms.{form_in}
 use Rattle.chess_san.specs.Naming.{names, san_reading, reading_by, the_one}
 use Rattle.chess_san.proofs.GoesLemmas.{read_legal}
-use Rattle.chess_pgn.specs.Grammar.{Derives, Element, Annotation, Remark, Close, Line, End, Skip, Annotate, Say, Play, Vary, Part, with_annotation, element, elements, elements_of, few_are_open, with_opening_comment, comments_joined, meaning, ok_move, nothing, with_move_first, said, varied, ◌>>=◌}
+use Rattle.chess_pgn.specs.Grammar.{Derives, Element, Annotation, Remark, Close, LineSyntax, End, Skip, Annotate, Say, Play, Vary, Addition, with_annotation, element, elements, elements_of, few_are_open, with_opening_comment, comments_joined, meaning, ok_move, nothing, with_move_first, said, varied, ◌>>=◌}
 use Rattle.chess_pgn.specs.Laws.{AreNoted, nesting}
 use Rattle.chess_pgn.specs.Reading.{lead_after, remarks}
 use Rattle.chess_pgn.proofs.RemarkLemmas.{normalised_separated}
@@ -111,7 +111,7 @@ abbrev BesideSound : Option PositionParts → Forest → Type 0
 BesideSound None f = f ≡ Bare
 BesideSound (Some p) f = AreSound p f × AreNoted f
 
-record IsSoundPart (before : Option PositionParts) (here : PositionParts) (r : Part) : Type 0 where
+record IsSoundPart (before : Option PositionParts) (here : PositionParts) (r : Addition) : Type 0 where
   nags : AllByRecursion (λ n. n < 256) r.nags
   comment : IsComment r.comment
   beside : BesideSound before r.beside
@@ -122,18 +122,18 @@ none_beside : (before : Option PositionParts) → BesideSound before Bare
 none_beside None = refl
 none_beside (Some p) = (tt, tt)
 
-part_of : (o : Option Part) (f : Part → Part) (r : Part) → (o >>= λ (x : Part). Some (f x)) ≡ Some r → (x : Part) × (o ≡ Some x) × (f x ≡ r)
+part_of : (o : Option Addition) (f : Addition → Addition) (r : Addition) → (o >>= λ (x : Addition). Some (f x)) ≡ Some r → (x : Addition) × (o ≡ Some x) × (f x ≡ r)
 part_of None f r e = absurd cc
 part_of (Some x) f r e = (x, refl, some_is (f x) r e)
   where
-    some_is : (x y : Part) → Some x ≡ Some y → x ≡ y
+    some_is : (x y : Addition) → Some x ≡ Some y → x ≡ y
     some_is x y h = cc
 
-two_of : (o : Option Part) (next : Part → Option Part) (r : Part) → (o >>= next) ≡ Some r → (x : Part) × (o ≡ Some x) × (next x ≡ Some r)
+two_of : (o : Option Addition) (next : Addition → Option Addition) (r : Addition) → (o >>= next) ≡ Some r → (x : Addition) × (o ≡ Some x) × (next x ≡ Some r)
 two_of None next r e = absurd cc
 two_of (Some x) next r e = (x, refl, e)
 
-move_of : (o : Result MoveParts SanFault) (next : MoveParts → Option Part) (r : Part) → (ok_move o >>= next) ≡ Some r → (m : MoveParts) × (o ≡ Ok m) × (next m ≡ Some r)
+move_of : (o : Result MoveParts SanFault) (next : MoveParts → Option Addition) (r : Addition) → (ok_move o >>= next) ≡ Some r → (m : MoveParts) × (o ≡ Ok m) × (next m ≡ Some r)
 move_of (Ok m) next r e = (m, refl, e)
 move_of (Err fault) next r e = absurd cc
 
@@ -145,7 +145,7 @@ noted_append : (f g : Forest) → AreNoted f → AreNoted g → AreNoted (append
 noted_append Bare g h k = k
 noted_append (Node m nags comment b next) g h k = (h.0, h.1, h.2, h.3, noted_append next g h.4 k)
 
-varied_sound : (p here : PositionParts) (f : Forest) (text : List ℕ) (x : Part) → AreSound p f → AreNoted f → IsComment text → IsSoundPart (Some p) here x → IsSoundPart (Some p) here (varied f text x)
+varied_sound : (p here : PositionParts) (f : Forest) (text : List ℕ) (x : Addition) → AreSound p f → AreNoted f → IsComment text → IsSoundPart (Some p) here x → IsSoundPart (Some p) here (varied f text x)
 varied_sound p here Bare text x sound noted is s = record { nags = s.nags; comment = joined_comment text x.comment is s.comment; beside = s.beside; below = s.below; noted = s.noted }
 varied_sound p here (Node m nags comment b next) text x sound noted is s = record {
   nags = s.nags;
@@ -158,10 +158,10 @@ varied_sound p here (Node m nags comment b next) text x sound noted is s = recor
   noted = s.noted;
 }
 
-line_sound : (l : Line) (before : Option PositionParts) (here : PositionParts) (r : Part) → AreSoundElements (elements_of l) → meaning l before here ≡ Some r → IsSoundPart before here r
+line_sound : (l : LineSyntax) (before : Option PositionParts) (here : PositionParts) (r : Addition) → AreSoundElements (elements_of l) → meaning l before here ≡ Some r → IsSoundPart before here r
 line_sound End before here r sound e = subst (IsSoundPart before here) (some_is nothing r e) (record { nags = tt; comment = no_comment; beside = none_beside before; below = tt; noted = tt })
   where
-    some_is : (x y : Part) → Some x ≡ Some y → x ≡ y
+    some_is : (x y : Addition) → Some x ≡ Some y → x ≡ y
     some_is x y h = cc
 line_sound (Skip l) before here r sound e = line_sound l before here r sound.1 e
 line_sound (Annotate n l) before here r sound e =
@@ -173,7 +173,7 @@ line_sound (Say text l) before here r sound e =
     let s = line_sound l before here x.0 sound.1 x.1 in
     subst (IsSoundPart before here) x.2 (record { nags = s.nags; comment = joined_comment text x.0.comment sound.0 s.comment; beside = s.beside; below = s.below; noted = s.noted })
 line_sound (Play word l) before here r sound e =
-    let a = move_of (san_reading here word) (λ m. meaning l (Some here) (after here m) >>= λ (x : Part). Some (with_move_first m x)) r e in
+    let a = move_of (san_reading here word) (λ m. meaning l (Some here) (after here m) >>= λ (x : Addition). Some (with_move_first m x)) r e in
     let m : MoveParts = a.0 in
     let x = part_of (meaning l (Some here) (after here m)) (with_move_first m) r a.2 in
     let s = line_sound l (Some here) (after here m) x.0 sound.1 x.1 in
@@ -188,7 +188,7 @@ line_sound (Play word l) before here r sound e =
     })
 line_sound (Vary v l) None here r sound e = absurd cc
 line_sound (Vary v l) (Some p) here r sound e =
-    let a = two_of (meaning v None p) (λ w. meaning l (Some p) here >>= λ (x : Part). Some (varied w.below w.comment x)) r e in
+    let a = two_of (meaning v None p) (λ w. meaning l (Some p) here >>= λ (x : Addition). Some (varied w.below w.comment x)) r e in
     let x = part_of (meaning l (Some p) here) (varied a.0.below a.0.comment) r a.2 in
     let parts = element_parts (elements_of v) (Close ∷ elements_of l) sound.1 in
     let w = line_sound v None p a.0 parts.0 a.1 in
@@ -197,7 +197,7 @@ line_sound (Vary v l) (Some p) here r sound e =
 
 -- ---- how many variations they open
 
-abbrev Within : ℕ → Part → Type 0
+abbrev Within : ℕ → Addition → Type 0
 Within n r = (n + nesting false r.below ≤ 128) × (n + nesting true r.beside ≤ 128)
 
 nesting_append : (f g : Forest) → nesting true (append f g) ≡ max (nesting true f) (nesting true g)
@@ -212,15 +212,15 @@ front_nesting : (text : List ℕ) (f : Forest) → nesting true (with_opening_co
 front_nesting text Bare = refl
 front_nesting text (Node m nags comment b next) = refl
 
-varied_within : (n : ℕ) (f : Forest) (text : List ℕ) (x : Part) → suc n + nesting false f ≤ 128 → Within n x → Within n (varied f text x)
+varied_within : (n : ℕ) (f : Forest) (text : List ℕ) (x : Addition) → suc n + nesting false f ≤ 128 → Within n x → Within n (varied f text x)
 varied_within n Bare text x few w = w
 varied_within n (Node m nags comment b next) text x few w =
     (w.0, omega (arith, w.1, few, nesting_append (Node m nags (comments_joined text comment) b next) x.beside, as_variations (Node m nags comment b next), front_nesting text (Node m nags comment b next)))
 
-line_within : (l : Line) (before : Option PositionParts) (here : PositionParts) (r : Part) (n : ℕ) (us : List Element) → n ≤ 128 → few_are_open n (elements_of l ++ us) ≡ true → meaning l before here ≡ Some r → Within n r × (few_are_open n us ≡ true)
+line_within : (l : LineSyntax) (before : Option PositionParts) (here : PositionParts) (r : Addition) (n : ℕ) (us : List Element) → n ≤ 128 → few_are_open n (elements_of l ++ us) ≡ true → meaning l before here ≡ Some r → Within n r × (few_are_open n us ≡ true)
 line_within End before here r n us low few e = (subst (Within n) (some_is nothing r e) (omega (arith, low), omega (arith, low)), few)
   where
-    some_is : (x y : Part) → Some x ≡ Some y → x ≡ y
+    some_is : (x y : Addition) → Some x ≡ Some y → x ≡ y
     some_is x y h = cc
 line_within (Skip l) before here r n us low few e = line_within l before here r n us low few e
 line_within (Annotate k l) before here r n us low few e =
@@ -232,13 +232,13 @@ line_within (Say text l) before here r n us low few e =
     let w = line_within l before here x.0 n us low few x.1 in
     (subst (Within n) x.2 w.0, w.1)
 line_within (Play word l) before here r n us low few e =
-    let a = move_of (san_reading here word) (λ m. meaning l (Some here) (after here m) >>= λ (x : Part). Some (with_move_first m x)) r e in
+    let a = move_of (san_reading here word) (λ m. meaning l (Some here) (after here m) >>= λ (x : Addition). Some (with_move_first m x)) r e in
     let x = part_of (meaning l (Some here) (after here a.0)) (with_move_first a.0) r a.2 in
     let w = line_within l (Some here) (after here a.0) x.0 n us low few x.1 in
     (subst (Within n) x.2 (omega (arith, w.0.0, w.0.1), omega (arith, low)), w.1)
 line_within (Vary v l) None here r n us low few e = absurd cc
 line_within (Vary v l) (Some p) here r n us low few e =
-    let a = two_of (meaning v None p) (λ w. meaning l (Some p) here >>= λ (x : Part). Some (varied w.below w.comment x)) r e in
+    let a = two_of (meaning v None p) (λ w. meaning l (Some p) here >>= λ (x : Addition). Some (varied w.below w.comment x)) r e in
     let x = part_of (meaning l (Some p) here) (varied a.0.below a.0.comment) r a.2 in
     let both = and_parts (nat_lt n 128) (few_are_open (suc n) ((elements_of v ++ Close ∷ elements_of l) ++ us)) few in
     let under = line_within v None p a.0 (suc n) (Close ∷ (elements_of l ++ us)) (omega (arith, ltb-true n 128 both.0)) (sym (ap (few_are_open (suc n)) (append_assoc (elements_of v) (Close ∷ elements_of l) us)) ∙ both.1) a.1 in

@@ -14,7 +14,7 @@ use Rattle.chess_tree.specs.Forest.{Forest, Bare, count, below_at, below_child}
 use Rattle.chess_tree.specs.GameTree.{TreeParts, added, annotated_here, at_path, line_to}
 use Rattle.chess_tree.specs.Edits.{annotated, change_node, parent}
 use Rattle.chess_tree.specs.WellFormed.{Leads}
-use Rattle.chess_pgn.specs.Grammar.{Element, Annotation, Remark, Open, Close, Text, Part, few_are_open, comments_joined, move_in, ok_move}
+use Rattle.chess_pgn.specs.Grammar.{Element, Annotation, Remark, Open, Close, Text, Addition, few_are_open, comments_joined, move_in, ok_move}
 use Rattle.chess_pgn.specs.steps.Hanging.{hang, leaf, nag, say}
 use Rattle.chess_pgn.specs.steps.Elements.{Frame, Last, path_of, last_of, end_of}
 use Rattle.chess_pgn.specs.steps.Readings.{Goes, Reading, fresh, goes_on, HoldsReading, IsSpaced, is_nil, Pends, AreFrames, Nested, position_at, said_here, comment_at, forest_at}
@@ -33,13 +33,13 @@ Next e t lines played comments from s =
 
 -- ---- what stays
 
-position_kept : (start : PositionParts) (p q : List ℕ) (r : Part) (f : Forest) → Leads q f → position_at start (hang p r f) q ≡ position_at start f q
+position_kept : (start : PositionParts) (p q : List ℕ) (r : Addition) (f : Forest) → Leads q f → position_at start (hang p r f) q ≡ position_at start f q
 position_kept start p q r f at = ap (λ (ms : List MoveParts). last (record { start = start; moves = ms })) (moves_kept p q r f at)
 
 leads_front : (q : List ℕ) (i : ℕ) (f : Forest) → Leads (q ++ i ∷ []) f → Leads q f
 leads_front = at-prefix
 
-pub frames_kept : (start : PositionParts) (p : List ℕ) (r : Part) (f : Forest) (st : List Frame) → AreFrames start f st → AreFrames start (hang p r f) st
+pub frames_kept : (start : PositionParts) (p : List ℕ) (r : Addition) (f : Forest) (st : List Frame) → AreFrames start f st → AreFrames start (hang p r f) st
 frames_kept start p r f [] all = tt
 frames_kept start p r f (x ∷ xs) all = (
   record {

@@ -7,7 +7,7 @@ use Rattle.chess_items.specs.Items as items
 use Rattle.chess_items.specs.Items.{Item, Each, Spells, EndsRun, in_line, is_digit, is_escapable, is_name_byte, is_outside, is_plain, place_after}
 use Rattle.chess_items.specs.declared.place.Place.{Place}
 use Rattle.chess_items.specs.declared.place.Place.TheVariants.{LineStart, InValue}
-use Rattle.chess_pgn.specs.Laws.{IsValue}
+use Rattle.chess_pgn.specs.Laws.{IsTagValue}
 use Rattle.chess_pgn.specs.Reading.{remarks}
 use Rattle.chess_pgn.specs.Tags.{AreBetween, AreTags, AreValueParts, IsTag, value_text}
 use Rattle.chess_pgn.specs.Written.{escaped, tag_text}
@@ -48,7 +48,7 @@ slash_stops : (more : List ℕ) → EndsRun is_plain (92 ∷ more)
 unfolding is_plain
 slash_stops more = refl
 
-value_spells : (run value more : List ℕ) (tail : List Item) (rest : List ℕ) → Each is_plain run → IsValue value → Spells InValue (34 ∷ more) tail rest → HasParts (run ++ value) (run ++ (escaped value ++ 34 ∷ more)) tail rest
+value_spells : (run value more : List ℕ) (tail : List Item) (rest : List ℕ) → Each is_plain run → IsTagValue value → Spells InValue (34 ∷ more) tail rest → HasParts (run ++ value) (run ++ (escaped value ++ 34 ∷ more)) tail rest
 value_spells run [] more tail rest each in_it s = with_run run [] (34 ∷ more) tail rest each (quote_stops more) (record { parts = []; are = tt; is = refl; spelled = s })
 value_spells run (b ∷ value) more tail rest each in_it s =
     step (is_escapable b) refl (value_spells [] value more tail rest tt in_it.1 s) (λ h. value_spells (run ++ b ∷ []) value more tail rest h in_it.1 s)
@@ -97,7 +97,7 @@ space_no_name : (more : List ℕ) → EndsRun is_name_byte (32 ∷ more)
 unfolding is_name_byte is_digit
 space_no_name more = refl
 
-tag_spells : (place : Place) (name value next : List ℕ) (more : List Item) (rest : List ℕ) → is_outside place ≡ true → IsName name → IsValue value → Spells LineStart next more rest → HasTag place name value next more rest
+tag_spells : (place : Place) (name value next : List ℕ) (more : List Item) (rest : List ℕ) → is_outside place ≡ true → IsName name → IsTagValue value → Spells LineStart next more rest → HasTag place name value next more rest
 tag_spells place name value next more rest out is in_it s =
     let closing : Spells InValue (34 ∷ 93 ∷ 10 ∷ next) (items.Quote ∷ items.TagClose ∷ items.Blank 10 ∷ more) rest = (
       34 ∷ [],
@@ -139,7 +139,7 @@ given_text [] = []
 given_text (tag ∷ tags) = tag_text tag.0 tag.1 ++ given_text tags
 
 abbrev pub IsGood : List ℕ × List ℕ → Type 0
-IsGood tag = IsName tag.0 × IsValue tag.1
+IsGood tag = IsName tag.0 × IsTagValue tag.1
 
 abbrev pub AreGood : List (List ℕ × List ℕ) → Type 0
 AreGood = AllByRecursion IsGood
@@ -155,7 +155,7 @@ pub record HasHead (place : Place) (given : List (List ℕ × List ℕ)) (text b
   pub spelled : Spells place input (head ++ text) rest
   pub said : remarks [] head ≡ remarks [] between
 
-one_more : (place : Place) (name value : List ℕ) (given : List (List ℕ × List ℕ)) (text between : List Item) (next rest : List ℕ) → is_outside place ≡ true → IsName name → IsValue value
+one_more : (place : Place) (name value : List ℕ) (given : List (List ℕ × List ℕ)) (text between : List Item) (next rest : List ℕ) → is_outside place ≡ true → IsName name → IsTagValue value
     → HasHead LineStart given text between next rest → HasHead place ((name, value) ∷ given) text between (tag_text name value ++ next) rest
 one_more place name value given text between next rest out is in_it h =
     let t = tag_spells place name value next (h.head ++ text) rest out is in_it h.spelled in

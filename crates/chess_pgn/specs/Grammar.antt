@@ -1,8 +1,8 @@
 -- Movetext: a line of moves with its annotations, comments and variations, and what it adds to a game (PGN 8.2).
 --   Element      what a line is made of, the blanks apart
 --   elements     the elements among some items
---   Line         the syntax of a line; elements_of, its elements
---   Part         what a stretch of a line adds at the move before it
+--   LineSyntax   the syntax of a line; elements_of, its elements
+--   Addition     what a stretch of a line adds at the move before it
 --   meaning      what a line adds, by the positions before its last move and after it
 --   Derives      the elements of a game's own line give its comment and its moves
 --   few_are_open no more than 128 variations are open at once
@@ -47,17 +47,17 @@ element _ = []
 abbrev pub elements : List Item → List Element
 elements is = flat_map element is
 
-pub data Line : Type 0 where
-  End : Line
-  Skip : Line → Line
-  Annotate : ℕ → Line → Line
-  Say : List ℕ → Line → Line
-  Play : List ℕ → Line → Line
+pub data LineSyntax : Type 0 where
+  End : LineSyntax
+  Skip : LineSyntax → LineSyntax
+  Annotate : ℕ → LineSyntax → LineSyntax
+  Say : List ℕ → LineSyntax → LineSyntax
+  Play : List ℕ → LineSyntax → LineSyntax
   -- a variation, and the rest of the line around it
-  Vary : Line → Line → Line
+  Vary : LineSyntax → LineSyntax → LineSyntax
 
 -- the elements of a line, one after another
-abbrev pub elements_of : Line → List Element
+abbrev pub elements_of : LineSyntax → List Element
 elements_of End = []
 elements_of (Skip line) = Number ∷ elements_of line
 elements_of (Annotate n line) = Annotation n ∷ elements_of line
@@ -84,26 +84,26 @@ comments_joined (b ∷ text) [] = b ∷ text
 comments_joined (b ∷ text) (c ∷ other) = (b ∷ text) ++ 32 ∷ c ∷ other
 
 -- Annotations and a comment of the move before, further children beside it, and what follows it.
-pub record Part : Type 0 where
+pub record Addition : Type 0 where
   pub nags : List ℕ
   pub comment : List ℕ
   pub beside : Forest
   pub below : Forest
 
 -- nothing after the move before
-abbrev pub nothing : Part
+abbrev pub nothing : Addition
 nothing = record { nags = []; comment = []; beside = Bare; below = Bare }
 
 -- an annotation number before the others
-abbrev pub with_annotation : ℕ → Part → Part
+abbrev pub with_annotation : ℕ → Addition → Addition
 with_annotation n r = record { nags = n ∷ r.nags; comment = r.comment; beside = r.beside; below = r.below }
 
 -- a comment before the others
-abbrev pub said : List ℕ → Part → Part
+abbrev pub said : List ℕ → Addition → Addition
 said text r = record { nags = r.nags; comment = comments_joined text r.comment; beside = r.beside; below = r.below }
 
 -- a move, with what its line has after it
-abbrev pub with_move_first : MoveParts → Part → Part
+abbrev pub with_move_first : MoveParts → Addition → Addition
 with_move_first m r = record { nags = []; comment = []; beside = Bare; below = Node m r.nags r.comment r.below r.beside }
 
 -- a comment before the first move's
@@ -113,7 +113,7 @@ with_opening_comment text (Node m nags comment below next) = Node m nags (commen
 
 -- A variation: its moves, with the comments before the first of them before that move's. One without a move is dropped, and its comments
 -- go to the move before it. Annotations before its first move are ignored.
-abbrev pub varied : Forest → List ℕ → Part → Part
+abbrev pub varied : Forest → List ℕ → Addition → Addition
 varied Bare text r = said text r
 varied (Node m nags comment below next) text r =
     record { nags = r.nags; comment = r.comment; beside = append (with_opening_comment text (Node m nags comment below next)) r.beside; below = r.below }
@@ -134,7 +134,7 @@ abbrev pub move_in : PositionParts → List ℕ → Option MoveParts
 move_in p word = ok_move (san_reading p word)
 
 -- There is no position before the last move where the line has none so far; no variation may stand there.
-abbrev pub meaning : Line → Option PositionParts → PositionParts → Option Part
+abbrev pub meaning : LineSyntax → Option PositionParts → PositionParts → Option Addition
 meaning End before here = Some nothing
 meaning (Skip line) before here = meaning line before here
 meaning (Annotate n line) before here = meaning line before here >>= λ r. Some (with_annotation n r)
@@ -148,9 +148,9 @@ meaning (Vary variation line) (Some p) here =
 -- The game's own line, in the position in which it begins and after the comments before its movetext, gives the comment before the first move
 -- and the moves.
 pub record Derives (es : List Element) (start : PositionParts) (before comment : List ℕ) (moves : Forest) : Type 0 where
-  pub line : Line
+  pub line : LineSyntax
   pub spelled : es ≡ elements_of line
-  pub part : Part
+  pub part : Addition
   pub means : meaning line None start ≡ Some part
   pub remarks : comment ≡ comments_joined before part.comment
   pub tree : moves ≡ part.below

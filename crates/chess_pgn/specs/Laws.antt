@@ -1,7 +1,7 @@
 -- What holds of every game.
 --   AreNoted       each move is between two squares, and each annotation number is one byte
 --   nesting        how many variations are open at once in the text of moves
---   IsValue, IsOther   the value of a tag; a tag besides those that the games have or that give the start and the end
+--   IsTagValue, IsOther  the value of a tag; a tag besides those that the games have or that give the start and the end
 --   HasTagTexts    what is true of the tags of each game
 --   IsGame         what is true of each game
 --   WrittenIsRead  a game that is written is read again
@@ -35,20 +35,20 @@ nesting false (Node m nags comment below next) = max (nesting false below) (nest
 nesting true (Node m nags comment below next) = max (1 + nesting false below) (nesting true next)
 
 -- a tag's value ends in its line
-abbrev pub IsValue : List ℕ → Type 0
-IsValue = Each in_line
+abbrev pub IsTagValue : List ℕ → Type 0
+IsTagValue = Each in_line
 
 -- its name is no other's
 abbrev pub IsOther : List ℕ × List ℕ → Type 0
-IsOther tag = (tag.0 ≢ []) × Each is_name_byte tag.0 × (is_own tag.0 ≡ false) × IsValue tag.1
+IsOther tag = (tag.0 ≢ []) × Each is_name_byte tag.0 × (is_own tag.0 ≡ false) × IsTagValue tag.1
 
 pub record HasTagTexts (tags : Tags) : Type 0 where
-  pub event : IsValue tags.event
-  pub site : IsValue tags.site
-  pub date : IsValue tags.date
-  pub round : IsValue tags.round
-  pub white : IsValue tags.white
-  pub black : IsValue tags.black
+  pub event : IsTagValue tags.event
+  pub site : IsTagValue tags.site
+  pub date : IsTagValue tags.date
+  pub round : IsTagValue tags.round
+  pub white : IsTagValue tags.white
+  pub black : IsTagValue tags.black
   pub others : AllByRecursion IsOther tags.others
   pub ascend : Ascend tags.others
 

@@ -1,3 +1,5 @@
+//! The position as a game begins, made once for the reading of many games.
+
 ghost use Rattle.std.specs.Prelude.{◌≡◌};
 ghost use Rattle.chess_types.specs.board.Position as position;
 

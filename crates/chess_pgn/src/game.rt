@@ -1,3 +1,5 @@
+//! A game: its tags, how it ended, and the tree of its moves.
+
 ghost use Rattle.std.specs.Prelude.{◌≡◌, ◌≤◌, [], Option, IfOk, IfErr, option_map};
 ghost use Rattle.chess_items.specs.declared.fault.FaultKind.TheVariants.{Memory};
 ghost use Rattle.chess_items.specs.declared.outcome.Outcome.TheVariants.{Unfinished};

@@ -1,3 +1,5 @@
+//! Laws of games that are written and read again.
+
 ghost use Rattle.chess_pgn.specs.Laws.{NewIsGame, OneCollection, OneGame, ReadIsGame, WrittenIsRead};
 
 /// What holds of every game: its clauses are laws of the definitions that `write_game` and `read_game` meet, and it does nothing.

@@ -1,3 +1,5 @@
+//! A text broken into lines of at most 79 bytes as it is written.
+
 ghost use Rattle.std.specs.Prelude.{◌≡◌, ◌<◌, ◌++◌, ◌∷◌, [], List, ℕ, length, codes, ◌≢◌, slice_set, vec_len, ◌+◌, ◌≤◌, IfOk, OnOk};
 ghost use Rattle.byte_streams.specs.Words.{words};
 ghost use Rattle.chess_pgn.specs.Layout.{in_lines, line_width};

@@ -1,3 +1,5 @@
+//! The movetext of a game, written node by node with notes and variations (PGN 8.2).
+
 ghost use Rattle.std.specs.Prelude.{◌≡◌, ◌++◌, ◌∷◌, [], Some, OnOk, IfOk, IfSome, IsTrue, is_none, length, ◌<◌, not, ◌||◌, true, false, codes};
 ghost use Rattle.chess_types.specs.board.Position as position;
 ghost use Rattle.chess_types.specs.board.Legal.{is_legal};

@@ -1,3 +1,5 @@
+//! The tags of a game that not each game has, by their names.
+
 ghost use Rattle.std.specs.Prelude.{◌≡◌, [], Option, Some, None, option_map, OnErr, OnOk};
 ghost use Rattle.chess_pgn.specs.Games.{tag_in};
 ghost use Rattle.chess_pgn.specs.Tags.{Ascend};

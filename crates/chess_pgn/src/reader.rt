@@ -1,3 +1,5 @@
+//! The reading of a game, item by item: its tags, then its movetext, then its end.
+
 ghost use Rattle.std.specs.Prelude.{◌≡◌, ◌⊎◌, false, IfErr, IfOk, OnOk};
 ghost use Rattle.chess_items.specs.declared.fault.FaultKind.TheVariants.{Memory};
 ghost use Rattle.chess_items.specs.steps.Tokens.{item_of};

@@ -1,3 +1,5 @@
+//! The tags that each game has (PGN 8.1.1), and the others.
+
 ghost use Rattle.std.specs.Prelude.{◌≡◌, Option, IfOk, option_map};
 ghost use Rattle.chess_pgn.specs.Games.{tag_value, unknown};
 

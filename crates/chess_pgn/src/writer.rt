@@ -1,3 +1,5 @@
+//! A game written in export form (PGN 3.2): its tags in order, then its movetext.
+
 ghost use Rattle.std.specs.Prelude.{◌≡◌, ◌++◌, ◌∷◌, [], if◌then◌else◌, bytes_eq, option_map, IfOk, IfErr, OnOk};
 ghost use Rattle.chess_items.specs.declared.fault.FaultKind.TheVariants.{Memory};
 ghost use Rattle.chess_fen.specs.Writing.{written};

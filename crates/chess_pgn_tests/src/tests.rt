@@ -1,3 +1,5 @@
+//! The tests by subject: games read, cut, passed over, written, in pieces, and random ones.
+
 mod common;
 mod cut;
 mod passing;

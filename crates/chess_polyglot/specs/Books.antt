@@ -3,7 +3,7 @@
 --   big_endian          the number of some bytes
 --   entries_in          how many entries a book has; key_at, the key of one
 --   IsBook              the keys ascend
---   IsFound             which entries are those of a key
+--   AreFound            which entries are those of a key
 --   promotion_named, move_named   the move of a number: three bits each for the file and the rank where it ends, the file and the rank where it
 --                       begins, and for what a pawn becomes
 --   castled             a king's move onto its own rook's home is its castling
@@ -39,7 +39,7 @@ abbrev pub IsBook : List ℕ → Type 0
 IsBook book = (i j : ℕ) → i ≤ j → j < entries_in book → key_at book i ≤ key_at book j
 
 -- the entries of a key are so many from the first on; in a book all others have a smaller key before them, or a greater one after them
-pub record IsFound (book : List ℕ) (key first count : ℕ) : Type 0 where
+pub record AreFound (book : List ℕ) (key first count : ℕ) : Type 0 where
   pub within : first + count ≤ entries_in book
   pub found : (i : ℕ) → first ≤ i → i < first + count → key_at book i ≡ key
   pub before : IsBook book → (i : ℕ) → i < first → key_at book i < key

@@ -1,8 +1,10 @@
+//! The entries of an opening book: found by a position's key, and read as legal moves.
+
 ghost use Rattle.std.specs.Prelude.{◌≡◌, ◌<◌, ◌≤◌, ◌+◌, ◌*◌, ℕ};
 ghost use Rattle.chess_types.specs.board.Board.{man_at};
 ghost use Rattle.chess_types.specs.board.Position.{man_on};
 ghost use Rattle.chess_types.specs.board.Pseudo.{reached};
-ghost use Rattle.chess_polyglot.specs.Books.{IsBook, IsFound, big_endian, book_move, castled, entries_in, goes_to_rook, key_at, move_named, named_move, promotion_named};
+ghost use Rattle.chess_polyglot.specs.Books.{IsBook, AreFound, big_endian, book_move, castled, entries_in, goes_to_rook, key_at, move_named, named_move, promotion_named};
 
 use chess_moves::is_legal;
 use chess_play::Live;
@@ -89,7 +91,7 @@ fn first_of(book: &[u8], key: u64) -> usize
 /// Where a book has the entries of a key: the first of them, counted from 0, and how many there are, one after another. A text whose keys don't
 /// ascend is no book: then some of them may not be found.
 pub fn find(book: &[u8], key: u64) -> (usize, usize)
-    ensures { IsFound book.now key result.0 result.1 }
+    ensures { AreFound book.now key result.0 result.1 }
 {
     let first = first_of(book, key);
     let mut count = 0;

@@ -1,3 +1,5 @@
+//! A position's key in Polyglot's opening books.
+
 ghost use Rattle.std.specs.Prelude.{◌≡◌, ◌<◌, bit_xor};
 ghost use Rattle.chess_types.specs.board.Board.{man_at};
 ghost use Rattle.chess_types.specs.board.Position.{man_on};

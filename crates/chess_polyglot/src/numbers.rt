@@ -1,3 +1,5 @@
+//! The 781 published numbers of which the keys of opening books are made.
+
 ghost use Rattle.std.specs.Prelude.{◌≡◌, ◌<◌};
 ghost use Rattle.chess_polyglot.specs.Numbers.{number_at};
 

@@ -1,3 +1,5 @@
+//! What a row has in each column, written after the last move of a line.
+
 ghost use Rattle.std.specs.Prelude.{◌≡◌, ◌++◌, true, option_map, OnOk};
 ghost use Rattle.chess_types.specs.board.Lines.{last};
 ghost use Rattle.chess_types.specs.board.Texts.{move_text};

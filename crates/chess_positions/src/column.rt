@@ -1,3 +1,5 @@
+//! The columns that rows may have, and their names.
+
 ghost use Rattle.std.specs.Prelude.{◌≡◌};
 ghost use Rattle.chess_positions.specs.declared.column.Column.{Column};
 ghost use Rattle.chess_positions.specs.declared.column.Column.TheVariants.{Game};

@@ -1,3 +1,5 @@
+//! Which columns rows have, and how they are written.
+
 use crate::column::Column;
 use arrayvec::ArrayVec;
 

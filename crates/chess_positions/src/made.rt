@@ -1,3 +1,5 @@
+//! The move before a row, made on the line, and its text where a column asks for it.
+
 ghost use Rattle.std.specs.Prelude.{◌≡◌, ◌<◌, ◌++◌, Some, true, length, IfOk, OnOk};
 ghost use Rattle.chess_types.specs.board.After.{after};
 ghost use Rattle.chess_types.specs.board.Legal.{is_legal};

@@ -1,3 +1,5 @@
+//! The rows of a game's main line, ply by ply, and the header before them.
+
 ghost use Rattle.std.specs.Prelude.{◌≡◌, ◌≤◌, ◌++◌, [], IfOk, OnOk};
 ghost use Rattle.std.specs.List.{list_any};
 ghost use Rattle.chess_draws.specs.Pushes.{most_plies};

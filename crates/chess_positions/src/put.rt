@@ -1,3 +1,5 @@
+//! Texts and numbers put into a row, with quotation marks where the format has them.
+
 ghost use Rattle.std.specs.Prelude.{◌≡◌, ◌++◌, decimal, OnOk};
 ghost use Rattle.chess_positions.specs.Rows.{quote, datum_text};
 ghost use Rattle.chess_positions.specs.Columns.{Nothing, Number, Text};

@@ -1,3 +1,5 @@
+//! A row from its cells: what stands before, between and after them in each format.
+
 ghost use Rattle.std.specs.Prelude.{◌≡◌, ◌++◌, ◌∷◌, [], map, OnOk};
 ghost use Rattle.std.specs.List.{list_any};
 ghost use Rattle.chess_draws.specs.LineParts.{IsAsBefore};

@@ -1,7 +1,7 @@
 -- How a game ended, by the Laws (FIDE Laws, articles 5.1, 5.2, 9.2, 9.3 and 9.6; PGN 8.2.6).
---   ended_by       from how the last position stands and who has mated
---   is_claimable   a draw may be claimed in it
---   ended          of a line, with the draws that may be claimed or without
+--   ended_by         from how the last position stands and who has mated
+--   has_claim        a draw may be claimed in it
+--   outcome_by_laws  of a line, with the draws that may be claimed or without
 use Rattle.std.specs.Prelude.{◌||◌, ◌&&◌, if◌then◌else◌, Bool, Option, Some, None}
 use Rattle.chess_types.specs.declared.board.man.Colour.{Colour}
 use Rattle.chess_types.specs.declared.board.man.Colour.TheVariants.{White, Black}
@@ -21,9 +21,9 @@ ended_by Mate (Some Black) = BlackWins
 ended_by _ won = Draw
 
 -- by repetition or by fifty moves (9.2, 9.3)
-abbrev pub is_claimable : Line → Bool
-is_claimable line = (claims line).threefold || (claims line).fifty
+abbrev pub has_claim : Line → Bool
+has_claim line = (claims line).threefold || (claims line).fifty
 
 -- a draw that may be claimed counts only where claims do
-abbrev pub ended : (with_claims : Bool) → Line → Outcome
-ended with_claims line = if with_claims && is_claimable line then Draw else ended_by (status line) (winner (last line))
+abbrev pub outcome_by_laws : (with_claims : Bool) → Line → Outcome
+outcome_by_laws with_claims line = if with_claims && has_claim line then Draw else ended_by (status line) (winner (last line))

@@ -1,3 +1,5 @@
+//! A line copied, its moves made again.
+
 ghost use Rattle.std.specs.Prelude.{◌≡◌, ◌≤◌, IfOk};
 
 use chess_draws::Line;

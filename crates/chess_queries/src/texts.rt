@@ -1,3 +1,5 @@
+//! The legal moves of a position, each with its text.
+
 ghost use Rattle.std.specs.Prelude.{◌≡◌, IfOk, map};
 ghost use Rattle.chess_types.specs.board.Legal.{legal_moves};
 ghost use Rattle.chess_types.specs.board.Lines.{last};

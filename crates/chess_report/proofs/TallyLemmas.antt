@@ -7,7 +7,7 @@ use Rattle.chess_types.specs.board.Repetition.{repetitions}
 use Rattle.chess_types.specs.board.Outcome.{status, claims, is_play}
 use Rattle.chess_report.specs.declared.report.Over.{Over}
 use Rattle.chess_report.specs.declared.tally.Tally.{Tally}
-use Rattle.chess_report.specs.MainLine.{as_far, else_here, greatest, least}
+use Rattle.chess_report.specs.MainLine.{as_far, else_here, greatest_below, least}
 use Rattle.chess_report.specs.Findings.{is_over}
 use Rattle.chess_report.specs.steps.Tallies.{IsTally, over_or}
 
@@ -48,9 +48,9 @@ tally_on whole line old new far t a =
       fifty = a.fifty ∙ ap (λ (o : Option ℕ). else_here o (claims line).fifty n) t.fifty
           ∙ ap (λ (l : Line). else_here (least (λ k. (claims (as_far k whole)).fifty) n) (claims l).fifty n) (sym far);
       repetitions = a.repetitions ∙ ap (λ (x : ℕ). max x (repetitions line)) t.repetitions
-          ∙ ap (λ (l : Line). max (greatest (λ k. repetitions (as_far k whole)) n) (repetitions l)) (sym far);
+          ∙ ap (λ (l : Line). max (greatest_below (λ k. repetitions (as_far k whole)) n) (repetitions l)) (sym far);
       quiet = a.quiet ∙ ap (λ (x : ℕ). max x (last line).clock) t.quiet
-          ∙ ap (λ (l : Line). max (greatest (λ k. (last (as_far k whole)).clock) n) (last l).clock) (sym far);
+          ∙ ap (λ (l : Line). max (greatest_below (λ k. (last (as_far k whole)).clock) n) (last l).clock) (sym far);
     }
 
 -- no ply

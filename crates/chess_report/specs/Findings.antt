@@ -6,7 +6,7 @@
 --   most_repetitions    the most often a position has come up
 --   longest_quiet       the most plies in a row without a pawn's move or a capture, those before the start as its halfmove clock has them
 --   is_win_of, is_draw, is_open    the marker at a game's end is a win of that side, a draw, or open
---   agrees              the marker agrees with the board; fits, with a board that stands so
+--   agrees              the marker agrees with the board; marker_fits, with a board that stands so
 use Rattle.std.specs.Prelude.{ℕ, nat_lt, Bool, true, false, not, ◌||◌, if◌then◌else◌, Option, Some, None}
 use Rattle.chess_types.specs.declared.board.man.Colour.{Colour}
 use Rattle.chess_types.specs.declared.board.man.Colour.TheVariants.{White, Black}
@@ -66,11 +66,11 @@ is_open Unfinished = true
 is_open _ = false
 
 -- after mate the winner's marker (1.4.1), after each other end a draw's (5.2, 9.6); any in a game that isn't over, in which a player may resign or overstep the time
-abbrev pub fits : Status → Option Colour → Outcome → Bool
-fits Play won marker = true
-fits Mate won marker = is_win_of won marker
-fits _ won marker = is_draw marker
+abbrev pub marker_fits : Status → Option Colour → Outcome → Bool
+marker_fits Play won marker = true
+marker_fits Mate won marker = is_win_of won marker
+marker_fits _ won marker = is_draw marker
 
 -- the marker says nothing, or what the board says
 abbrev pub agrees : Line → Outcome → Bool
-agrees line marker = is_open marker || fits (status line) (winner (last line)) marker
+agrees line marker = is_open marker || marker_fits (status line) (winner (last line)) marker

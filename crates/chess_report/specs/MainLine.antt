@@ -1,10 +1,10 @@
 -- The main line of a game, and its plies. Ply n has n moves made: ply 0 is the start, and the last ply has them all.
---   main       the line of a game's main continuations
---   as_far     the line as far as a ply
---   least      the least of the numbers 0, 1, .. below a bound that has a property
---   greatest   the greatest value at the numbers below a bound, or 0
---   first      the first ply with a property
---   most       the greatest value of all plies
+--   main            the line of a game's main continuations
+--   as_far          the line as far as a ply
+--   least           the least of the numbers 0, 1, .. below a bound that has a property
+--   greatest_below  the greatest value at the numbers below a bound, or 0
+--   first           the first ply with a property
+--   most            the greatest value of all plies
 use Rattle.std.specs.Prelude.{ℕ, zero, suc, max, Bool, if◌then◌else◌, length, take, Option, Some, None}
 use Rattle.chess_types.specs.board.Lines.{Line}
 use Rattle.chess_tree.specs.GameTree.{GameTree, line_along, main_line}
@@ -28,9 +28,9 @@ least has zero = None
 least has (suc n) = else_here (least has n) (has n) n
 
 -- the greatest value of the numbers below n, 0 of none
-abbrev pub greatest : (ℕ → ℕ) → ℕ → ℕ
-greatest value zero = 0
-greatest value (suc n) = max (greatest value n) (value n)
+abbrev pub greatest_below : (ℕ → ℕ) → ℕ → ℕ
+greatest_below value zero = 0
+greatest_below value (suc n) = max (greatest_below value n) (value n)
 
 -- of the plies 0 to the last
 abbrev pub first : (Line → Bool) → Line → Option ℕ
@@ -38,4 +38,4 @@ first has line = least (λ n. has (as_far n line)) (suc (length line.moves))
 
 -- the greatest value of the line after any of its plies
 abbrev pub most : (Line → ℕ) → Line → ℕ
-most value line = greatest (λ n. value (as_far n line)) (suc (length line.moves))
+most value line = greatest_below (λ n. value (as_far n line)) (suc (length line.moves))

@@ -1,10 +1,12 @@
+//! What the Laws say of a game's main line, from the start to the last position.
+
 ghost use Rattle.std.specs.Prelude.{◌≡◌, ◌≤◌, ◌<◌, [], ◌||◌, suc, true, length, IfOk, IfSome, OnOk, option_map};
 ghost use Rattle.chess_types.specs.board.Legal.{is_legal};
 ghost use Rattle.chess_types.specs.board.Lines.{extended, last};
 ghost use Rattle.chess_types.specs.board.Outcome.{status, winner};
 ghost use Rattle.chess_draws.specs.Pushes.{most_plies};
 ghost use Rattle.chess_report.specs.MainLine.{as_far, main};
-ghost use Rattle.chess_report.specs.Findings.{agrees, first_fifty, first_over, first_threefold, fits, is_open, is_win_of, longest_quiet, most_repetitions, played_on};
+ghost use Rattle.chess_report.specs.Findings.{agrees, first_fifty, first_over, first_threefold, marker_fits, is_open, is_win_of, longest_quiet, most_repetitions, played_on};
 ghost use Rattle.chess_report.specs.steps.Tallies.{IsTally};
 ghost use Rattle.chess_tree.specs.Forest.{height};
 ghost use Rattle.chess_tree.specs.WellFormed.{AreSound};
@@ -108,7 +110,7 @@ fn is_win_of(won: Option<Colour>, marker: Outcome) -> bool
 
 // Whether the marker goes with a board that stands so.
 fn fits(status: Status, won: Option<Colour>, marker: Outcome) -> bool
-    ensures { result ≡ fits status won marker }
+    ensures { result ≡ marker_fits status won marker }
 {
     match status {
         Status::Play => true,
@@ -119,7 +121,7 @@ fn fits(status: Status, won: Option<Colour>, marker: Outcome) -> bool
 
 // The same, or the marker is open.
 fn agrees(status: Status, won: Option<Colour>, marker: Outcome) -> bool
-    ensures { result ≡ (is_open marker || fits status won marker) }
+    ensures { result ≡ (is_open marker || marker_fits status won marker) }
 {
     let is_open = marker == Outcome::Unfinished;
     is_open | fits(status, won, marker)

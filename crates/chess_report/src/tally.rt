@@ -1,3 +1,5 @@
+//! What a report keeps while it goes over a line, ply by ply.
+
 ghost use Rattle.std.specs.Prelude.{◌≡◌, length, max, None};
 ghost use Rattle.chess_types.specs.board.Lines.{last};
 ghost use Rattle.chess_types.specs.board.Repetition.{repetitions};

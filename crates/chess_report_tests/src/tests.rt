@@ -1,3 +1,5 @@
+//! The tests by subject: reports, lines, edits, and walks over trees.
+
 mod edit;
 mod lines;
 mod report;

@@ -4,7 +4,7 @@ use Rattle.chess_san.specs.declared.fault.SanFault.{SanFault}
 use Rattle.chess_san.specs.declared.fault.SanFault.TheVariants.{Form, Illegal, Ambiguous}
 
 -- a fault's number
-abbrev pub number_of : SanFault → ℕ
-number_of Form = 1
-number_of Illegal = 2
-number_of Ambiguous = 3
+abbrev pub san_fault_number : SanFault → ℕ
+san_fault_number Form = 1
+san_fault_number Illegal = 2
+san_fault_number Ambiguous = 3

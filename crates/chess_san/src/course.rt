@@ -1,3 +1,5 @@
+//! A text read as what it says of a move, before any position is looked at (PGN 8.2.3).
+
 ghost use Rattle.std.specs.Prelude.{◌≡◌, ◌<◌, ◌≤◌, IfSome};
 ghost use Rattle.byte_streams.specs.Words.{without_last_gaps};
 ghost use Rattle.chess_san.specs.Forms.{among_eight, file_in, rank_in, square_at, piece_in, promotion_in, ending_in, arrival_square_in, arrival_in, ranked_in, rank_or_not, filed_in, course_in, man_in, wing_in, form_in, marks};

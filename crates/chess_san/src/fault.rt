@@ -1,3 +1,5 @@
+//! Why a text names no move to play.
+
 use thiserror::Error;
 
 /// Why a text names no move to play (PGN 8.2.3).
@@ -16,11 +18,11 @@ pub enum SanFault {
 
 impl SanFault {
     ghost use Rattle.std.specs.Prelude.{◌≡◌};
-    ghost use Rattle.chess_san.specs.Faults.{number_of};
+    ghost use Rattle.chess_san.specs.Faults.{san_fault_number};
 
     /// The fault's number, 1 to 3.
     pub fn number(self) -> u8
-        ensures { result ≡ number_of self }
+        ensures { result ≡ san_fault_number self }
     {
         self as u8
     }

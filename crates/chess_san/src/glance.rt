@@ -1,3 +1,5 @@
+//! A move's text, found from the text that it was read from, without another look at the legal moves.
+
 ghost use Rattle.std.specs.Prelude.{◌≡◌, ◌≤◌, ◌++◌, false, Ok, IfSome, IsTrue, MatchOption};
 ghost use Rattle.arrayvec.specs.ArrayString.{array_string_len};
 ghost use Rattle.chess_types.specs.board.After.{after};

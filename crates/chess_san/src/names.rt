@@ -1,3 +1,5 @@
+//! Whether what a text says fits a legal move.
+
 ghost use Rattle.std.specs.Prelude.{◌≡◌};
 ghost use Rattle.chess_san.specs.Naming.{is_kind, castles_by, is_castles, fits, follows, may_be_plain, names};
 

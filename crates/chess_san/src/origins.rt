@@ -1,3 +1,5 @@
+//! The squares from which a man of a kind may come to a target.
+
 ghost use Rattle.std.specs.Prelude.{◌≡◌, ◌<◌, ◌≤◌, ◌*◌, ◌||◌, ℕ, false, true, IfNone, IfSome};
 ghost use Rattle.std.specs.FinSet.{contains};
 ghost use Rattle.chess_types.specs.declared.board.man.Kind.TheVariants.{Pawn};

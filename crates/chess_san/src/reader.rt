@@ -1,3 +1,5 @@
+//! The legal move that a text names in standard algebraic notation (PGN 8.2.3).
+
 ghost use Rattle.std.specs.Prelude.{IfOk, ◌≡◌, ◌<◌, ◌≤◌, ℕ, true, filter};
 ghost use Rattle.std.specs.FinSet.{contains};
 ghost use Rattle.chess_types.specs.board.MoveParts.{MoveParts};

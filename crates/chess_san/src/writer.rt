@@ -1,3 +1,5 @@
+//! The text of a legal move in standard algebraic notation, with what distinguishes it, and its mark (PGN 8.2.3).
+
 ghost use Rattle.std.specs.Prelude.{◌≡◌, ◌+◌, ◌<◌, ◌≤◌, ◌++◌, ◌∷◌, [], IfSome, IsTrue, Ok, Some, false, length, filter, None, ◌==◌};
 ghost use Rattle.std.specs.List.{list_any};
 ghost use Rattle.std.specs.FinSet.{contains};

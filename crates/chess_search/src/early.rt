@@ -1,3 +1,5 @@
+//! Lines that are cut off before their legal moves are listed.
+
 ghost use Rattle.std.specs.Prelude.{◌≡◌, ℕ, ◌<◌, ◌≤◌, false, length, IfSome};
 ghost use Rattle.chess_types.specs.board.Legal.{legal_moves};
 ghost use Rattle.chess_types.specs.board.Lines.{last};

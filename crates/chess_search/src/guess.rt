@@ -1,3 +1,5 @@
+//! Which root is likely to be the best, guessed before the search.
+
 ghost use Rattle.std.specs.Prelude.{◌≡◌, ◌<◌, ◌+◌, ◌≤◌, IsTrue, true, length};
 ghost use Rattle.std.specs.List.{All};
 ghost use Rattle.chess_types.specs.board.Legal.{is_legal};

@@ -1,3 +1,5 @@
+//! The law of what the scores of mates mean.
+
 ghost use Rattle.chess_search.specs.Mates.{MateIsForced, MateIsReported, MatedIsForced, MatedIsReported};
 
 /// What the scores of mates mean (FIDE Laws, articles 1.4.1 and 5.1.1): a search says `mate N` exactly where the side to move can mate with its N-th

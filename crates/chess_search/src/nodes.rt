@@ -1,3 +1,5 @@
+//! The number of positions that a search has asked for.
+
 ghost use Rattle.std.specs.Prelude.{◌≡◌, ◌+◌, ◌-◌, ◌^◌, min};
 
 use std::marker::Model;

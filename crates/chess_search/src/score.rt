@@ -1,3 +1,5 @@
+//! The value of a search as UCI writes scores.
+
 ghost use Rattle.std.specs.Prelude.{◌≡◌, ◌++◌, ◌≤◌, length};
 ghost use Rattle.std.specs.Fmt.{signed_decimal};
 ghost use Rattle.chess_search.specs.Scores.{score_text};

@@ -1,3 +1,5 @@
+//! A search that goes on root by root, one for each call.
+
 ghost use Rattle.std.specs.Prelude.{◌≡◌, ◌+◌, ◌-◌, ◌^◌, ◌<◌, ◌≤◌, None, length, min, take, true, false, IsTrue};
 ghost use Rattle.chess_draws.specs.LineParts.{IsAsBefore};
 ghost use Rattle.chess_search.specs.Best.{best};

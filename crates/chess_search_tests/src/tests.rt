@@ -1,3 +1,5 @@
+//! The tests by subject: best moves, and searches compared with plain minimax.
+
 mod best;
 mod plain;
 mod random;

@@ -1,6 +1,6 @@
 -- What legal moves keep, and what they count (FIDE Laws, articles 3.7.3, 3.8.2 and 9.3; PGN 16.1.3).
 --   how_many       how many men of a colour and a kind are on the board
---   promoted       how many of them must have been pawns
+--   once_pawns     how many of them must have been pawns
 --   IsArmy         pawns, and men who must have been pawns, are at most eight
 --   MenNeverRise, PawnsNeverRise   a legal move adds no man of either colour, and no pawn
 --   ArmiesStay     two such armies stay such armies
@@ -35,12 +35,12 @@ abbrev pub how_many : Colour → Kind → Board → ℕ
 how_many c kind board = count_squares (λ there. is_man there c kind) board
 
 -- the knights, bishops and rooks beyond two of a kind, and the queens beyond one (2.2)
-abbrev pub promoted : Colour → Board → ℕ
-promoted c board = (how_many c Knight board - 2) + (how_many c Bishop board - 2) + (how_many c Rook board - 2) + (how_many c Queen board - 1)
+abbrev pub once_pawns : Colour → Board → ℕ
+once_pawns c board = (how_many c Knight board - 2) + (how_many c Bishop board - 2) + (how_many c Rook board - 2) + (how_many c Queen board - 1)
 
 -- with the pawns they are at most eight
 abbrev pub IsArmy : Colour → Board → Type 0
-IsArmy c board = how_many c Pawn board + promoted c board ≤ 8
+IsArmy c board = how_many c Pawn board + once_pawns c board ≤ 8
 
 -- no man comes onto the board
 abbrev pub MenNeverRise : Type 0

@@ -1,3 +1,5 @@
+//! The theorem that no mate follows a dead position (FIDE Laws 5.2.2).
+
 ghost use Rattle.chess_theorems.specs.DeadLaws.{DeadHasNoMate, DeadIsForever, DeadStays, TwoKingsAreDead};
 
 /// The dead positions are dead (FIDE Laws, article 5.2.2). A position is on the list of `chess_types/specs/board/Dead.antt` by its men alone; its

@@ -1,3 +1,5 @@
+//! The theorem that left and right are alike where nobody may castle.
+
 ghost use Rattle.chess_theorems.specs.FlipLaws.{AfterFlips, ChecksFlip, CountsFlip, LegalFlips, MateFlips};
 
 /// Left and right are alike where nobody may castle. A position with its files turned round has the turned attack counts, checks and legal moves,

@@ -1,3 +1,5 @@
+//! The theorem that the Laws are the same for both sides.
+
 ghost use Rattle.chess_theorems.specs.MirrorLaws.{AfterTurns, ChecksTurn, CountsTurn, LegalTurns, LinesTurn, MateTurns};
 
 /// The Laws are the same for both sides. A position seen from the other side, its ranks turned round and the colours exchanged, has the turned attack

@@ -1,3 +1,5 @@
+//! Theorems on what legal moves keep: men, castling rights, en passant and the two counters.
+
 ghost use Rattle.chess_theorems.specs.MoveLaws.{ArmiesStay, CastlingIsSound, ClockCounts, MenNeverRise, NumberCounts, PawnsNeverRise, RightsAreLost, TakenAtOnce};
 
 /// What legal moves keep, and what they count (FIDE Laws, articles 3.7.3, 3.8.2 and 9.3; PGN 16.1.3): from the position in which a game begins no

@@ -1,3 +1,5 @@
+//! Theorems on status and claims, and the positions that they speak of.
+
 ghost use Rattle.chess_theorems.specs.OutcomeLaws.{ClaimsAgree, ClaimsEnd, DrawsAreClaimable, MateIsMate, StalemateIsNone};
 
 /// What the status of a line and its claims have to do with its last position and the next (FIDE Laws, articles 5.1.1, 5.2.1, 9.2 and 9.3): mate is

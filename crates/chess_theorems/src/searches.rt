@@ -1,3 +1,5 @@
+//! The theorem that a best move's value is the line's value, unless the line is drawn already.
+
 ghost use Rattle.chess_theorems.specs.SearchLaws.{BestIsWorth};
 
 /// What the best of all legal moves is worth is what the line is worth, so the number beside a best move means what `mate_laws` of `chess_search` says

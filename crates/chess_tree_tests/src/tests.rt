@@ -1,3 +1,5 @@
+//! The tests by subject: trees, analyses, edits, copies, walks, long and random ones.
+
 mod analysis;
 mod calls;
 mod copies;

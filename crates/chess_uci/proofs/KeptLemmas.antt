@@ -10,7 +10,7 @@ use Rattle.chess_uci.specs.Placing.{placed}
 use Rattle.chess_uci.specs.Commands.{Command, Idle, Uci, IsReady, NewGame, Position, Unplaced, Go, Stop, Quit, SetOption, command_in, without_memory, claims_set}
 use Rattle.chess_uci.specs.Go.{fields}
 use Rattle.chess_uci.specs.Machine.{Event, Line, Starved, Slice, Moment, Search, State, Step, Turn, beginning, step, step_if, live_step, line_step, idle_command, busy_command, go_among, placed_at, set_claims, slice_step, slice_row, depth_best, info, moment_step, end_if, is_reached, chosen, begun}
-use Rattle.chess_uci.specs.Laws.{after_events, Each, ReportsBest, ReportsTheBest, finished, best_done}
+use Rattle.chess_uci.specs.Laws.{after_events, ForEach, ReportsBest, ReportsTheBest, finished, best_done}
 
 -- what is kept of the last completed depth is the best there
 abbrev IsKept : GameLine → Option Search → Type 0
@@ -19,7 +19,7 @@ IsKept l (Some x) = (x.completed ≡ best_done l x x.done) × (0 < x.depth)
 
 -- a step keeps what a search keeps, and reports the best
 abbrev Good : GameLine → Option Search → Event → Step → Type 0
-Good l x event t = IsKept t.1.line t.1.search × Each (ReportsBest l x event) t.0
+Good l x event t = IsKept t.1.line t.1.search × ForEach (ReportsBest l x event) t.0
 
 best_done_at : (l : GameLine) (x : Search) (d : ℕ) → 0 < d → best_done l x d ≡ best x.claims d l x.roots
 best_done_at l x zero h = absurd (omega arith)
@@ -64,15 +64,15 @@ busy_good s event x _ k e f = (k, (tt, tt))
 
 -- the same of a turn
 abbrev GoodTurn : GameLine → Search → Event → Turn → Type 0
-GoodTurn l x event t = IsKept l t.1 × Each (ReportsBest l (Some x) event) t.0
+GoodTurn l x event t = IsKept l t.1 × ForEach (ReportsBest l (Some x) event) t.0
 
 -- a depth is reported by its best
-info_good : (l : GameLine) (x : Search) (found : Option (MoveParts × ℤ)) → found ≡ best x.claims x.depth l x.roots → Each (ReportsBest l (Some x) Slice) (info x.depth found)
+info_good : (l : GameLine) (x : Search) (found : Option (MoveParts × ℤ)) → found ≡ best x.claims x.depth l x.roots → ForEach (ReportsBest l (Some x) Slice) (info x.depth found)
 info_good l x None e = tt
 info_good l x (Some m) e = ((refl, sym e), tt)
 
 last_good : (l : GameLine) (x : Search) (found : Option (MoveParts × ℤ)) → 0 < x.depth → found ≡ best x.claims x.depth l x.roots →
-    Each (ReportsBest l (Some x) Slice) (info x.depth found ++ BestMove (chosen found x.roots) ∷ [])
+    ForEach (ReportsBest l (Some x) Slice) (info x.depth found ++ BestMove (chosen found x.roots) ∷ [])
 last_good l x None deep e = (ap (λ b. chosen b x.roots) (e ∙ sym (best_done_at l x x.depth deep)), tt)
 last_good l x (Some m) deep e = ((refl, sym e), (ap (λ b. chosen b x.roots) (e ∙ sym (best_done_at l x x.depth deep)), tt))
 

@@ -19,7 +19,7 @@ use Rattle.chess_draws.specs.LineParts.{LineParts}
 use Rattle.chess_uci.specs.declared.placing.PlaceFault.{PlaceFault}
 use Rattle.chess_uci.specs.declared.placing.PlaceFault.TheVariants.{Refused, Memory as NoMemory}
 use Rattle.chess_uci.specs.steps.Places.{Places, Begins}
-use Rattle.chess_uci.specs.Placing.{named_move, line_with_move, line_with_word, line_played, begun_by, before_moves, after_moves, placed, spaced, names_fen, AddsMove, Grows}
+use Rattle.chess_uci.specs.Placing.{long_move, line_with_move, line_with_word, line_played, begun_by, before_moves, after_moves, placed, spaced, names_fen, AddsMove, Grows}
 
 -- each move whose text it is, is what was read of it
 abbrev pub Complete : List ℕ → Option MoveParts → Type 0
@@ -55,19 +55,19 @@ the_read line word read complete k d l e =
     let named = legal_named (last line) k d l in
     complete n named.from named.to named.names ((bytes_eq-Decides word (move_text n)).0 e)
 
-named_none : (line : Line) (word : List ℕ) → Complete word None → named_move line word ≡ None
+named_none : (line : Line) (word : List ℕ) → Complete word None → long_move line word ≡ None
 named_none line word complete =
     find_none (λ n. bytes_eq word (move_text n)) (legal_moves (last line)) (λ k d l e. let clash = the_read line word None complete k d l e in cc)
 
 named_legal : (line : Line) (word : List ℕ) (m : MoveParts) → Complete word (Some m) → word ≡ move_text m → m.from < 64 → m.to < 64 → is_legal (last line) m ≡ true →
-    named_move line word ≡ Some m
+    long_move line word ≡ Some m
 named_legal line word m complete sound from to legal =
     find_only (λ n. bytes_eq word (move_text n)) (legal_moves (last line)) m
     (legal_listed (last line) m (record { from = from; to = to }) legal)
     ((bytes_eq-Decides word (move_text m)).1 sound)
     (λ k d l e. let same = the_read line word (Some m) complete k d l e in cc)
 
-named_illegal : (line : Line) (word : List ℕ) (m : MoveParts) → Complete word (Some m) → is_legal (last line) m ≡ false → named_move line word ≡ None
+named_illegal : (line : Line) (word : List ℕ) (m : MoveParts) → Complete word (Some m) → is_legal (last line) m ≡ false → long_move line word ≡ None
 named_illegal line word m complete illegal =
     find_none (λ n. bytes_eq word (move_text n)) (legal_moves (last line))
     (λ k d l e. let same = the_read line word (Some m) complete k d l e in let legal = moves_legal (last line) k d l in cc)

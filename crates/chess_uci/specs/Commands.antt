@@ -1,9 +1,9 @@
 -- What a line of a session asks for (the UCI protocol's text).
---   gaps         the bytes that separate words
---   Command      what may be asked for
---   named        the command that a word names, with the words after it
---   command_in   what a line asks for
---   claims_set   what the words after `setoption` set the option Claims to
+--   gaps           the bytes that separate words
+--   Command        what may be asked for
+--   command_named  the command that a word names, with the words after it
+--   command_in     what a line asks for
+--   claims_set     what the words after `setoption` set the option Claims to
 use Rattle.std.specs.Prelude.{ℕ, Bool, true, false, ◌&&◌, if◌then◌else◌, List, [], ◌∷◌, map, Option, Some, None, unwrap_or, codes}
 use Rattle.std.specs.Char.{to_ascii_lowercase}
 use Rattle.std.specs.Str.{bytes_eq}
@@ -33,8 +33,8 @@ pub data Command : Type 0 where
   SetOption : List (List ℕ) → Command
 
 -- the command of a first word and the words after it; the last three ask for nothing here
-abbrev pub named : List ℕ → List (List ℕ) → Option Command
-named word others =
+abbrev pub command_named : List ℕ → List (List ℕ) → Option Command
+command_named word others =
     beside (
     (codes "uci", Uci)
     ∷ (codes "isready", IsReady)
@@ -52,7 +52,7 @@ named word others =
 -- the first word that is a command decides; words before it are skipped
 abbrev pub command : List (List ℕ) → Command
 command [] = Idle
-command (word ∷ others) = unwrap_or (named word others) (command others)
+command (word ∷ others) = unwrap_or (command_named word others) (command others)
 
 -- the command of a line
 abbrev pub command_in : List ℕ → Command

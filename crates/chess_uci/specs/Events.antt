@@ -1,8 +1,8 @@
 -- What a session does at an event.
---   event_of    the event of the code as the machine's
---   Starves     a line that asks for memory may be one for which it is refused
---   Does        the replies and the new state are those of a step
---   Follows     they are those of the event, or of the line for which memory is refused
+--   event_of      the event of the code as the machine's
+--   StepsStarved  a line that asks for memory may be one for which it is refused
+--   Does          the replies and the new state are those of a step
+--   Follows       they are those of the event, or of the line for which memory is refused
 use Rattle.std.specs.Prelude.{◌≡◌, ◌⊎◌, List}
 use Rattle.chess_uci.specs.declared.reply.Reply.{Reply}
 use Rattle.chess_uci.specs.declared.event.Event.{Event as EventCode}
@@ -21,10 +21,10 @@ abbrev pub Does : Step → List Reply → State → Type 0
 Does t replies new = (replies ≡ t.0) × (new ≡ t.1)
 
 -- the step of a line for which a growth was refused: only of one that asks for memory
-abbrev pub Starves : State → EventCode → List Reply → State → Type 0
-Starves old (LineCode line) replies new = AsksForMemory (command_in line.now) × Does (step old (Starved line.now)) replies new
-Starves old _ replies new = ⊥
+abbrev pub StepsStarved : State → EventCode → List Reply → State → Type 0
+StepsStarved old (LineCode line) replies new = AsksForMemory (command_in line.now) × Does (step old (Starved line.now)) replies new
+StepsStarved old _ replies new = ⊥
 
 -- what an event leads to: its step, or that of a refused growth
 abbrev pub Follows : State → EventCode → List Reply → State → Type 0
-Follows old event replies new = Does (step old (event_of event)) replies new ⊎ Starves old event replies new
+Follows old event replies new = Does (step old (event_of event)) replies new ⊎ StepsStarved old event replies new

@@ -1,10 +1,10 @@
 -- What the words after `go` ask for.
---   name_of      the field that the word names and gives the next word to
---   number       the number that a word writes
---   fields       the fields that the words set
---   is_named     the words after the last `searchmoves` name the move
---   budget       the milliseconds that the search may take, if it is timed
---   last_depth   how deep it goes
+--   field_named    the field that the word names and gives the next word to
+--   number         the number that a word writes
+--   fields         the fields that the words set
+--   is_searchmove  the words after the last `searchmoves` name the move
+--   budget         the milliseconds that the search may take, if it is timed
+--   last_depth     how deep it goes
 use Rattle.std.specs.Prelude.{ℕ, ◌+◌, ◌-◌, ◌*◌, ◌/◌, ◌==◌, min, max, Bool, true, false, ◌||◌, if◌then◌else◌, List, [], ◌∷◌, fold, Option, Some, None, option_map, unwrap_or, is_some, codes}
 use Rattle.std.specs.Char.{is_ascii_digit}
 use Rattle.std.specs.List.{list_all}
@@ -17,8 +17,8 @@ use Rattle.chess_uci.specs.declared.fields.Name.TheVariants.{Depth, MoveTime, Wh
 use Rattle.chess_uci.specs.declared.fields.Fields.{Fields}
 
 -- the name of a field of `go` that takes a number; with the last three nothing is done
-abbrev pub name_of : List ℕ → Option Name
-name_of word =
+abbrev pub field_named : List ℕ → Option Name
+field_named word =
     beside (
     (codes "depth", Depth)
     ∷ (codes "movetime", MoveTime)
@@ -41,7 +41,7 @@ is_searchmoves word = bytes_eq word (codes "searchmoves")
 
 -- any word that has a meaning after `go`
 abbrev pub is_name : List ℕ → Bool
-is_name word = is_some (name_of word) || is_infinite word || bytes_eq word (codes "ponder") || is_searchmoves word
+is_name word = is_some (field_named word) || is_infinite word || bytes_eq word (codes "ponder") || is_searchmoves word
 
 -- the number with one decimal digit more
 abbrev pub with_digit : ℕ → ℕ → ℕ
@@ -81,18 +81,18 @@ pub record Reading : Type 0 where
   pub wanted : Option Name
 
 -- the number that the word gives to the name before it
-abbrev pub given : Option Name → List ℕ → Option (Name × ℕ)
-given None word = None
-given (Some name) word = option_map (λ n. (name, n)) (number word)
+abbrev pub given_number : Option Name → List ℕ → Option (Name × ℕ)
+given_number None word = None
+given_number (Some name) word = option_map (λ n. (name, n)) (number word)
 
 -- a name takes the next word where that is a number; else the name alone is skipped
 abbrev pub read_as : Fields → List ℕ → Option (Name × ℕ) → Reading
 read_as f word (Some gift) = record { fields = with_number f gift.0 gift.1; wanted = None }
-read_as f word None = record { fields = fields_with_word f word; wanted = name_of word }
+read_as f word None = record { fields = fields_with_word f word; wanted = field_named word }
 
 -- what has been read, with the next word
 abbrev pub read_word : Reading → List ℕ → Reading
-read_word r word = read_as r.fields word (given r.wanted word)
+read_word r word = read_as r.fields word (given_number r.wanted word)
 
 -- from left to right
 abbrev pub fields : List (List ℕ) → Fields
@@ -109,8 +109,8 @@ is_listed text [] = false
 is_listed text (word ∷ words) = if is_name word then false else bytes_eq word text || is_listed text words
 
 -- the text is one of the words after `searchmoves`
-abbrev pub is_named : List (List ℕ) → List ℕ → Bool
-is_named words text = is_listed text (after_searchmoves [] words)
+abbrev pub is_searchmove : List (List ℕ) → List ℕ → Bool
+is_searchmove words text = is_listed text (after_searchmoves [] words)
 
 -- the time and the increment of the side to move
 abbrev pub time_of : Fields → Colour → Option ℕ

@@ -154,9 +154,9 @@ best_done l x zero = None
 best_done l x (suc d) = best x.claims (suc d) l x.roots
 
 -- each element of a list
-abbrev pub Each : {X : Type 0} → (X → Type 0) → List X → Type 0
-Each P [] = ⊤
-Each P (x ∷ xs) = P x × Each P xs
+abbrev pub ForEach : {X : Type 0} → (X → Type 0) → List X → Type 0
+ForEach P [] = ⊤
+ForEach P (x ∷ xs) = P x × ForEach P xs
 
 -- the last depth that is complete after an event that ends a search
 abbrev pub finished : Search → Event → ℕ
@@ -178,7 +178,7 @@ abbrev pub ReportsTheBest : Type 0
 ReportsTheBest =
     (events : List Event) (event : Event) →
     let s = after_events beginning events in
-    Each (ReportsBest s.line s.search event) (step s event).0
+    ForEach (ReportsBest s.line s.search event) (step s event).0
 
 -- the same search goes on, on the same line
 abbrev pub KeepsSearching : GameLine → Search → GameLine → Option Search → Type 0

@@ -21,7 +21,7 @@ use Rattle.chess_search.specs.Best.{best}
 use Rattle.chess_uci.specs.declared.reply.Reply.{Reply}
 use Rattle.chess_uci.specs.declared.reply.Reply.TheVariants.{Name, Author, ClaimsOption, UciOk, ReadyOk, Refused, OutOfMemory, Busy, Info, BestMove}
 use Rattle.chess_uci.specs.Commands.{Command, Idle, Uci, IsReady, NewGame, Position, Unplaced, Go, Stop, Quit, SetOption, command_in, without_memory, claims_set}
-use Rattle.chess_uci.specs.Go.{fields, is_named, budget, last_depth}
+use Rattle.chess_uci.specs.Go.{fields, is_searchmove, budget, last_depth}
 use Rattle.chess_uci.specs.Placing.{Grows, start_line, placed}
 
 -- what happens to a session
@@ -82,7 +82,7 @@ or_all (m ∷ ms) legal = m ∷ ms
 
 -- the legal moves that are named, in their order; all of them where none is
 abbrev pub roots_of : GameLine → List (List ℕ) → List MoveParts
-roots_of line words = or_all (filter (λ m. is_named words (move_text m)) (legal_moves (last line))) (legal_moves (last line))
+roots_of line words = or_all (filter (λ m. is_searchmove words (move_text m)) (legal_moves (last line))) (legal_moves (last line))
 
 -- the search that a `go` begins
 abbrev pub begun : State → List (List ℕ) → Search

@@ -1,7 +1,7 @@
 -- The line that the words after `position` name.
 --   start_line   a game as it begins
 --   begun_by     where the line begins: `startpos`, or `fen` and the words of a FEN
---   named_move   the legal move that a word names in long algebraic notation
+--   long_move    the legal move that a word names in long algebraic notation
 --   line_played  the line with the moves that the words name, at most 20,000
 --   placed       the line, where there is one
 --   Grows        memory is asked for on the way there: for a FEN, or for a move that is legal and within the limit
@@ -62,8 +62,8 @@ begun_by (word ∷ words) =
     else None
 
 -- the legal move that a text in long algebraic notation names
-abbrev pub named_move : Line → List ℕ → Option MoveParts
-named_move line word = find (λ m. bytes_eq word (move_text m)) (legal_moves (last line))
+abbrev pub long_move : Line → List ℕ → Option MoveParts
+long_move line word = find (λ m. bytes_eq word (move_text m)) (legal_moves (last line))
 
 -- a line has at most 20,000 moves
 abbrev pub line_with_move : Line → Option MoveParts → Option Line
@@ -73,7 +73,7 @@ line_with_move line (Some m) = if nat_le most_plies (length line.moves) then Non
 -- the line with the move of one word more, if the word names one
 abbrev pub line_with_word : Option Line → List ℕ → Option Line
 line_with_word None word = None
-line_with_word (Some line) word = line_with_move line (named_move line word)
+line_with_word (Some line) word = line_with_move line (long_move line word)
 
 -- from left to right; none where a word names no move, or no line is there to begin with
 abbrev pub line_played : Option Line → List (List ℕ) → Option Line

@@ -1,6 +1,8 @@
+//! What a line of UCI asks for: the commands, and the option that may be set.
+
 ghost use Rattle.std.specs.Prelude.{◌≡◌};
 ghost use Rattle.byte_streams.specs.Words.{words};
-ghost use Rattle.chess_uci.specs.Commands.{gaps, command_in, named as named_by, same_word, truth_in, claims_set};
+ghost use Rattle.chess_uci.specs.Commands.{gaps, command_in, command_named as named_by, same_word, truth_in, claims_set};
 ghost use Rattle.chess_uci.specs.steps.Commands.{command_of, named_of};
 
 use crate::table::beside;

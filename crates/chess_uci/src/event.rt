@@ -1,3 +1,5 @@
+//! The events of a session.
+
 /// What happens to a session.
 #[derive(Clone, Copy, Debug, PartialEq, Eq)]
 pub enum Event<'a> {

@@ -1,9 +1,11 @@
+//! The fields of a `go` line, read from left to right.
+
 ghost use Rattle.std.specs.Prelude.{◌≡◌, min, fold};
 ghost use Rattle.std.specs.Char.{is_ascii_digit};
 ghost use Rattle.std.specs.List.{list_all};
 ghost use Rattle.byte_streams.specs.Words.{words};
 ghost use Rattle.chess_uci.specs.Commands.{gaps};
-ghost use Rattle.chess_uci.specs.Go.{with_digit, digits, number, is_infinite, name_of, with_number, fields_with_word, given, fields};
+ghost use Rattle.chess_uci.specs.Go.{with_digit, digits, number, is_infinite, field_named, with_number, fields_with_word, given_number, fields};
 
 use crate::command::GAPS;
 use crate::table::beside;
@@ -82,7 +84,7 @@ fn is_infinite(word: &[u8]) -> bool
 
 /// The field that the word names, if it is one that takes a number.
 pub(crate) fn name_of(word: &[u8]) -> Option<Name>
-    ensures { result ≡ name_of word.now }
+    ensures { result ≡ field_named word.now }
 {
     let table = [
         (b"depth".as_slice(), Name::Depth),
@@ -116,7 +118,7 @@ fn with_number(fields: Fields, name: Name, n: u32) -> Fields
 
 // The number that the word gives to the name before it.
 fn given(wanted: Option<Name>, word: &[u8]) -> Option<(Name, u32)>
-    ensures { result ≡ given wanted word.now }
+    ensures { result ≡ given_number wanted word.now }
 {
     let name = wanted?;
     let n = number(word)?;

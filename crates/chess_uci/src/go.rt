@@ -1,3 +1,5 @@
+//! What a `go` line asks for: the moves to search, the time, and the last depth.
+
 ghost use Rattle.std.specs.Prelude.{◌≡◌, ◌≤◌, []};
 ghost use Rattle.byte_streams.specs.Words.{words};
 ghost use Rattle.chess_uci.specs.Commands.{gaps};

@@ -1,3 +1,5 @@
+//! Laws of sessions, whatever events come.
+
 ghost use Rattle.chess_uci.specs.Laws.{AnswersEachGo, AnswersAtTheEnd, IsReadyAlone, SilentAfterQuit, ReportsTheBest, SearchStays};
 
 /// What holds of every list of events, from a session's beginning: its clauses are laws of the machine that `Session::event` is, and it

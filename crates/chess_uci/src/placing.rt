@@ -1,3 +1,5 @@
+//! The line of moves that a `position` line names.
+
 ghost use Rattle.std.specs.Prelude.{◌≡◌, ◌∷◌, ◌++◌, Some, true, is_some, OnErr, OnOk, IfOk, codes};
 ghost use Rattle.chess_types.specs.board.Position.{start};
 ghost use Rattle.byte_streams.specs.Words.{words};

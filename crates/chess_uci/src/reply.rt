@@ -1,3 +1,5 @@
+//! The lines that a session replies.
+
 ghost use Rattle.std.specs.Prelude.{◌≡◌, ◌≤◌, length};
 ghost use Rattle.chess_uci.specs.Replies.{reply_text};
 

@@ -1,3 +1,5 @@
+//! Which legal moves a `go` line has searched.
+
 ghost use Rattle.std.specs.Prelude.{◌≡◌, filter};
 ghost use Rattle.chess_types.specs.board.Texts.{move_text};
 ghost use Rattle.byte_streams.specs.Words.{words};

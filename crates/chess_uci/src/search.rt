@@ -1,3 +1,5 @@
+//! A search that runs in a session, depth by depth and root by root.
+
 ghost use Rattle.std.specs.Prelude.{◌≡◌, ◌≤◌, ◌<◌, ◌∷◌, ◌++◌, [], ◌+◌, ◌-◌, ◌==◌, Some, None, option_map, is_some, IfSome, IfNone, false, length, min};
 ghost use Rattle.chess_types.specs.board.Lines.{Line as GameLine};
 ghost use Rattle.chess_search.specs.Slices.{GoesWith};

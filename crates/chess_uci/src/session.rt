@@ -1,3 +1,5 @@
+//! A session of the universal chess interface, event by event.
+
 ghost use Rattle.std.specs.Prelude.{◌≡◌, ◌⊎◌, ◌≤◌, min, max, None, true, is_some, IfSome, IfNone};
 ghost use Rattle.byte_streams.specs.Words.{words};
 ghost use Rattle.chess_uci.specs.Commands.{gaps, command_in, claims_set as claims_set_of, without_memory, Unplaced};

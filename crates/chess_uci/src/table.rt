@@ -1,3 +1,5 @@
+//! Words looked up in a table.
+
 ghost use Rattle.std.specs.Prelude.{◌≡◌, map};
 ghost use Rattle.chess_uci.specs.Tables.{beside};
 

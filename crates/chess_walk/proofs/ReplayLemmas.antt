@@ -12,7 +12,7 @@ use Rattle.chess_tree.specs.Forest.{Forest, Bare, Node, height}
 use Rattle.chess_tree.specs.GameTree.{GameTree, TreeParts}
 use Rattle.chess_tree.specs.WellFormed.{AreSound, IsGameTree}
 use Rattle.chess_walk.specs.Order.{Visit, of_main, visits}
-use Rattle.chess_walk.specs.Replays.{Played, main_played, played}
+use Rattle.chess_walk.specs.Replays.{Played, main_played, replays}
 use Rattle.chess_walk.specs.steps.Lines.{AreReplayable, IsLegalAgain, after_visit, before_move, replayed, shortened, with_any}
 
 -- a line goes on from where another ends
@@ -100,7 +100,7 @@ one_more : (p : Line) (m : MoveParts) → length (extended p m).moves ≡ length
 one_more p m = length-append p.moves (m ∷ [])
 
 goes : (v : Bool) (f : Forest) (q p l : Line) (d level : ℕ) (again : Option MoveParts) → d ≡ length p.moves + 1 → Keeps q p → Keeps q l → Starts v l p d again →
-    AreSound (last p) f → length p.moves + height f ≤ 20000 → (l' : Line) × Goes l l' q (visits v d level again f) (played v p d level again f)
+    AreSound (last p) f → length p.moves + height f ≤ 20000 → (l' : Line) × Goes l l' q (visits v d level again f) (replays v p d level again f)
 goes v Bare q p l d level again is kp kl starts sound high = (l, record { keeps = kl; same = λ ys. refl; ready = λ ys r. r })
 goes false (Node m nags comment below Bare) q p l d level again is kp kl starts sound high =
     let on = extended p m in
@@ -109,7 +109,7 @@ goes false (Node m nags comment below Bare) q p l d level again is kp kl starts 
     let b = goes false below q on on (d + 1) level None (omega arith) kept kept (before_none on on (d + 1) (keeps_self on) (omega arith), tt)
     (sound_on p m below sound.2) (omega arith) in
     let v : Visit = record { depth = d; level = level; begins = false; again = again; node = record { move = Some m; nags = nags; comment = comment; below = below } } in
-    (b.0, step l b.0 p q v m (visits false (d + 1) level None below) (played false on (d + 1) level None below) starts.0 starts.1 refl sound.0 (omega arith) (omega arith) b.1)
+    (b.0, step l b.0 p q v m (visits false (d + 1) level None below) (replays false on (d + 1) level None below) starts.0 starts.1 refl sound.0 (omega arith) (omega arith) b.1)
 goes false (Node m nags comment below (Node m2 nags2 comment2 below2 next2)) q p l d level again is kp kl starts sound high =
     let on = extended p m in
     let long = one_more p m in
@@ -120,9 +120,9 @@ goes false (Node m nags comment below (Node m2 nags2 comment2 below2 next2)) q p
     let v : Visit = record { depth = d; level = level; begins = false; again = again; node = record { move = Some m; nags = nags; comment = comment; below = below } } in (
       b.0,
       step l b.0 p q v m (visits true d (level + 1) None next ++ visits false (d + 1) level (Some m) below)
-          (played true p d (level + 1) None next ++ played false on (d + 1) level (Some m) below) starts.0 starts.1 refl sound.0 (omega arith) (omega arith)
-          (join on r.0 b.0 p q (visits true d (level + 1) None next) (visits false (d + 1) level (Some m) below) (played true p d (level + 1) None next)
-          (played false on (d + 1) level (Some m) below) r.1 b.1),
+          (replays true p d (level + 1) None next ++ replays false on (d + 1) level (Some m) below) starts.0 starts.1 refl sound.0 (omega arith) (omega arith)
+          (join on r.0 b.0 p q (visits true d (level + 1) None next) (visits false (d + 1) level (Some m) below) (replays true p d (level + 1) None next)
+          (replays false on (d + 1) level (Some m) below) r.1 b.1),
     )
 goes true (Node m nags comment below next) q p l d level again is kp kl starts sound high =
     let on = extended p m in
@@ -133,9 +133,9 @@ goes true (Node m nags comment below next) q p l d level again is kp kl starts s
     let v : Visit = record { depth = d; level = level; begins = true; again = None; node = record { move = Some m; nags = nags; comment = comment; below = below } } in (
       r.0,
       step l r.0 p q v m (visits false (d + 1) level None below ++ visits true d level None next)
-          (played false on (d + 1) level None below ++ played true p d level None next) (before_none p l d starts is) tt refl sound.0 (omega arith) (omega arith)
-          (join on b.0 r.0 p q (visits false (d + 1) level None below) (visits true d level None next) (played false on (d + 1) level None below)
-          (played true p d level None next) b.1 r.1),
+          (replays false on (d + 1) level None below ++ replays true p d level None next) (before_none p l d starts is) tt refl sound.0 (omega arith) (omega arith)
+          (join on b.0 r.0 p q (visits false (d + 1) level None below) (visits true d level None next) (replays false on (d + 1) level None below)
+          (replays true p d level None next) b.1 r.1),
     )
 
 goes_main : (f : Forest) (p l : Line) (d : ℕ) → d ≡ length p.moves + 1 → Keeps p l → AreSound (last p) f → length p.moves + height f ≤ 20000 →
@@ -167,13 +167,13 @@ root start = record { start = start; moves = [] }
 
 -- a whole tree from its first position
 pub whole_tree : (start : PositionParts) (f : Forest) → AreSound start f → height f ≤ 20000 →
-    (replayed (root start) (visits false 1 0 None f) ≡ played false (root start) 1 0 None f) × AreReplayable (root start) (visits false 1 0 None f)
+    (replayed (root start) (visits false 1 0 None f) ≡ replays false (root start) 1 0 None f) × AreReplayable (root start) (visits false 1 0 None f)
 unfolding last
 whole_tree start f sound high =
     let at = root start in
     let g = goes false f at at at 1 0 None refl (keeps_self at) (keeps_self at) (refl, tt) sound (omega arith) in
     let all = append-nil (visits false 1 0 None f) in (
-      ap (replayed at) (sym all) ∙ g.1.same [] ∙ append-nil (played false at 1 0 None f),
+      ap (replayed at) (sym all) ∙ g.1.same [] ∙ append-nil (replays false at 1 0 None f),
       subst (AreReplayable at) all (g.1.ready [] tt),
     )
 
@@ -193,9 +193,9 @@ begun start line walk vs ps line_is walk_is all = (
 
 pub whole_begun : (tree : GameTree) (t : TreeParts) (line : Line) (walk : List Visit) → t.tree ≡ tree → IsGameTree t → line ≡ root tree.start →
     walk ≡ visits false 1 0 None tree.below →
-    (replayed line walk ≡ played false (root tree.start) 1 0 None tree.below) × AreReplayable line walk
+    (replayed line walk ≡ replays false (root tree.start) 1 0 None tree.below) × AreReplayable line walk
 whole_begun tree t line walk is game line_is walk_is =
-    begun tree.start line walk (visits false 1 0 None tree.below) (played false (root tree.start) 1 0 None tree.below) line_is walk_is
+    begun tree.start line walk (visits false 1 0 None tree.below) (replays false (root tree.start) 1 0 None tree.below) line_is walk_is
     (whole_tree tree.start tree.below (subst (λ (x : GameTree). AreSound x.start x.below) is game.moves) (subst (λ (x : GameTree). height x.below ≤ 20000) is game.deep))
 
 pub main_begun : (tree : GameTree) (t : TreeParts) (line : Line) (walk : List Visit) → t.tree ≡ tree → IsGameTree t → line ≡ root tree.start →

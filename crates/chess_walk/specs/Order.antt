@@ -4,7 +4,7 @@
 --   of_main      the moves of a main line alone
 --   visits       moves side by side and all that follows them: the first, the others as variations, and what follows the first
 --   resumed      the move that is to be made again after its variations
---   Gives        what one step of a walk gives
+--   GivesNext    what one step of a walk gives
 use Rattle.std.specs.Prelude.{◌≡◌, ℕ, ◌+◌, Bool, true, false, List, [], ◌∷◌, ◌++◌, Option, Some, None, Result, Ok, Err}
 use Rattle.chess_types.specs.board.MoveParts.{MoveParts}
 use Rattle.chess_tree.specs.Forest.{Forest, Bare, Node, NodeParts, child}
@@ -52,7 +52,7 @@ visits true depth level again (Node m nags comment below next) =
     ∷ (visits false (depth + 1) level None below ++ visits true depth level None next)
 
 -- The first of the nodes that are left, or none where none is. Where there is no memory to go on with, the walk is over.
-abbrev pub Gives : {V E : Type 0} → (V → Visit) → List Visit → Option (Result V E) → List Visit → Type 0
-Gives seen left None rest = (left ≡ []) × (rest ≡ [])
-Gives seen left (Some (Ok visit)) rest = left ≡ seen visit ∷ rest
-Gives seen left (Some (Err fault)) rest = rest ≡ []
+abbrev pub GivesNext : {V E : Type 0} → (V → Visit) → List Visit → Option (Result V E) → List Visit → Type 0
+GivesNext seen left None rest = (left ≡ []) × (rest ≡ [])
+GivesNext seen left (Some (Ok visit)) rest = left ≡ seen visit ∷ rest
+GivesNext seen left (Some (Err fault)) rest = rest ≡ []

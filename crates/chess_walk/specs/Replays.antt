@@ -1,7 +1,7 @@
 -- A walk with the moves made.
 --   Played        a visit, and the line before its move
 --   main_played   the moves of a main line alone, from the line before them
---   played        moves side by side and all that follows them, in the order of a PGN text, each after the line that leads to it
+--   replays       moves side by side and all that follows them, in the order of a PGN text, each after the line that leads to it
 --   Shows         what a step of the walk gives of one
 --   GivesPlayed   what one step gives
 use Rattle.std.specs.Prelude.{◌≡◌, ℕ, ◌+◌, Bool, true, false, List, [], ◌∷◌, ◌++◌, Option, Some, None, Result, Ok, Err, IfSome}
@@ -30,20 +30,20 @@ main_played line depth (Node m nags comment below next) =
 
 -- Moves side by side, each made after the line. As a line: the first, the others as variations, and what follows the first. As variations:
 -- each with all that follows it, before the next.
-abbrev pub played : (as_variations : Bool) → Line → (depth level : ℕ) → Option MoveParts → Forest → List Played
-played as_variations line depth level again Bare = []
-played false line depth level again (Node m nags comment below next) =
+abbrev pub replays : (as_variations : Bool) → Line → (depth level : ℕ) → Option MoveParts → Forest → List Played
+replays as_variations line depth level again Bare = []
+replays false line depth level again (Node m nags comment below next) =
     record {
       before = line;
       visit = record { depth = depth; level = level; begins = false; again = again; node = record { move = Some m; nags = nags; comment = comment; below = below } };
     }
-    ∷ (played true line depth (level + 1) None next ++ played false (extended line m) (depth + 1) level (resumed m next) below)
-played true line depth level again (Node m nags comment below next) =
+    ∷ (replays true line depth (level + 1) None next ++ replays false (extended line m) (depth + 1) level (resumed m next) below)
+replays true line depth level again (Node m nags comment below next) =
     record {
       before = line;
       visit = record { depth = depth; level = level; begins = true; again = None; node = record { move = Some m; nags = nags; comment = comment; below = below } };
     }
-    ∷ (played false (extended line m) (depth + 1) level None below ++ played true line depth level None next)
+    ∷ (replays false (extended line m) (depth + 1) level None below ++ replays true line depth level None next)
 
 -- what is given of it: its numbers and its node, the text of its move in standard algebraic notation (PGN 8.2.3), and the position after the move
 pub record Shows (depth level : ℕ) (begins : Bool) (node : NodeParts) (text : List ℕ) (position : PositionParts) (p : Played) : Type 0 where

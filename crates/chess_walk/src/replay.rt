@@ -1,10 +1,12 @@
+//! A walk over a tree's nodes that makes their moves.
+
 ghost use Rattle.std.specs.Prelude.{◌≡◌, ◌<◌, ◌≤◌, [], true, false, length, IfOk, None};
 ghost use Rattle.std.specs.Iterator.{at_most};
 ghost use Rattle.chess_types.specs.board.Legal.{is_legal};
 ghost use Rattle.chess_types.specs.board.Lines.{extended, last};
 ghost use Rattle.chess_san.specs.Writing.{san};
 ghost use Rattle.chess_draws.specs.Pushes.{most_plies};
-ghost use Rattle.chess_walk.specs.Replays.{GivesPlayed, main_played, played};
+ghost use Rattle.chess_walk.specs.Replays.{GivesPlayed, main_played, replays};
 ghost use Rattle.chess_walk.specs.steps.Lines.{IsLegalAgain, before_move, shortened};
 
 use crate::walk::{Visit, Walk};
@@ -132,7 +134,7 @@ impl<'t, 'k, 'a, A: Allocator> Replay<'t, 'k, 'a, A> {
         table: &'k KeyTable,
         tree: &'t Tree<'a, A>,
     ) -> Result<Replay<'t, 'k, 'a, A>, AllocError>
-        ensures { IfOk result (λ replay. replay ≡ played false (record { start = tree.now.tree.start; moves = [] }) 1 0 None tree.now.tree.below) }
+        ensures { IfOk result (λ replay. replay ≡ replays false (record { start = tree.now.tree.start; moves = [] }) 1 0 None tree.now.tree.below) }
     {
         let _ = tree.position();
         let walk = Walk::of(alloc, tree)?;

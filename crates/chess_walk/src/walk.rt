@@ -1,8 +1,10 @@
+//! A walk over a tree's nodes, in the order of a game's text.
+
 ghost use Rattle.std.specs.Prelude.{◌≡◌, ◌+◌, ◌<◌, ◌≤◌, ◌∷◌, ◌++◌, [], true, false, length, vec_len, vec_capacity, is_none, if◌then◌else◌, IfOk, None};
 ghost use Rattle.std.specs.Iterator.{at_most};
 ghost use Rattle.chess_draws.specs.Pushes.{most_plies};
 ghost use Rattle.chess_tree.specs.Forest.{child, height};
-ghost use Rattle.chess_walk.specs.Order.{Gives, of_main, visits};
+ghost use Rattle.chess_walk.specs.Order.{GivesNext, of_main, visits};
 ghost use Rattle.chess_walk.specs.declared.walk.Kind.TheVariants as kind;
 
 use chess_tree::{Children, NodeRef, Tree};
@@ -219,7 +221,7 @@ impl<'t, 'a, A: Allocator> Iterator for Walk<'t, 'a, A> {
 
     type Item = Result<Visit<'t, 'a, A>, AllocError>;
 
-    ghost next_gives = { Gives seen };
+    ghost next_gives = { GivesNext seen };
 
     ghost remaining = { λ walk. at_most (length walk) };
 

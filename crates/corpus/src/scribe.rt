@@ -1,3 +1,5 @@
+//! Random games, with or without variations and comments.
+
 use arrayvec::ArrayVec;
 use chess_key::KeyTable;
 use chess_pgn::Outcome;

@@ -1,3 +1,5 @@
+//! Tags for random games.
+
 use chess_pgn::Tags;
 use std::alloc::{AllocError, Allocator};
 

@@ -12,13 +12,13 @@ total [] = 0
 total (h ∷ hs) = h.1 + total hs
 
 -- whether some hole has n bytes
-abbrev pub fits : ℕ → List Span → Bool
-fits n [] = false
-fits n (h ∷ hs) = nat_le n h.1 || fits n hs
+abbrev pub has_hole : ℕ → List Span → Bool
+has_hole n [] = false
+has_hole n (h ∷ hs) = nat_le n h.1 || has_hole n hs
 
 -- some hole has n bytes
-abbrev pub Fits : ℕ → List Span → Type 0
-Fits n hs = IsTrue (fits n hs)
+abbrev pub HasHole : ℕ → List Span → Type 0
+HasHole n hs = IsTrue (has_hole n hs)
 
 -- the place of the first such hole
 abbrev pub first_fit : ℕ → List Span → ℕ
@@ -30,19 +30,19 @@ abbrev pub shortened : ℕ → Span → List Span → List Span
 shortened n h hs = if h.1 == n then hs else (h.0 + n, h.1 - n) ∷ hs
 
 -- the holes once n bytes are taken from the front of the first that has them
-abbrev pub taken : ℕ → List Span → List Span
-taken n [] = []
-taken n (h ∷ hs) = if nat_le n h.1 then shortened n h hs else h ∷ taken n hs
+abbrev pub taken_from : ℕ → List Span → List Span
+taken_from n [] = []
+taken_from n (h ∷ hs) = if nat_le n h.1 then shortened n h hs else h ∷ taken_from n hs
 
 -- s before the holes, joined to the first if they touch
-abbrev pub joined : Span → List Span → List Span
-joined s [] = s ∷ []
-joined s (h ∷ hs) = if s.0 + s.1 == h.0 then (s.0, s.1 + h.1) ∷ hs else s ∷ h ∷ hs
+abbrev pub joined_first : Span → List Span → List Span
+joined_first s [] = s ∷ []
+joined_first s (h ∷ hs) = if s.0 + s.1 == h.0 then (s.0, s.1 + h.1) ∷ hs else s ∷ h ∷ hs
 
 -- the holes once s is free: it stands in its place, joined to the holes that it touches
 abbrev pub released : Span → List Span → List Span
 released s [] = s ∷ []
-released s (h ∷ hs) = if nat_lt s.0 h.0 then joined s (h ∷ hs) else (if h.0 + h.1 == s.0 then joined (h.0, h.1 + s.1) hs else h ∷ released s hs)
+released s (h ∷ hs) = if nat_lt s.0 h.0 then joined_first s (h ∷ hs) else (if h.0 + h.1 == s.0 then joined_first (h.0, h.1 + s.1) hs else h ∷ released s hs)
 
 -- the bytes that a node of this size takes: the dummy has a size of 0
 abbrev pub extent : ℕ → ℕ
@@ -54,9 +54,9 @@ in_order low high [] = nat_le low high
 in_order low high (h ∷ hs) = nat_le low h.0 && ((h.1 % 16 == 0) && in_order (h.0 + extent h.1) high hs)
 
 -- the holes lie from low on, none is empty, and no two touch
-abbrev pub spaced : ℕ → List Span → Bool
-spaced low [] = true
-spaced low (h ∷ hs) = nat_le low h.0 && (nat_lt 0 h.1 && spaced (h.0 + h.1 + 1) hs)
+abbrev pub are_spaced : ℕ → List Span → Bool
+are_spaced low [] = true
+are_spaced low (h ∷ hs) = nat_le low h.0 && (nat_lt 0 h.1 && are_spaced (h.0 + h.1 + 1) hs)
 
 -- the first of the nodes before c, and c
 abbrev pub first_node : List Span → Span → Span

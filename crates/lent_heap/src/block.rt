@@ -1,3 +1,5 @@
+//! Blocks of memory that a heap gave out.
+
 ghost use Rattle.std.specs.Prelude.{◌≡◌, ℕ};
 ghost use types.Logic.{sem};
 ghost use Rattle.lent_heap.specs.Region.{Region, IsBlock};

@@ -1,7 +1,9 @@
+//! A heap of a fixed size over memory that was lent.
+
 ghost use Rattle.std.specs.Prelude.{◌≡◌, ◌+◌, ◌-◌, ◌/◌, ◌*◌, ◌^◌, ◌<◌, ◌≤◌, ◌↔◌, [], ◌∷◌, IsTrue, IsOk, IfOk, IfErr, MatchOption, IfSome, None};
 ghost use Rattle.std.specs.Layout.{layout_size, layout_align};
 ghost use Rattle.lent_heap.specs.Region.{block_size, bottom, IsRegionSize};
-ghost use Rattle.lent_heap.specs.Holes.{Fits, first_fit, taken, released, total, spaced};
+ghost use Rattle.lent_heap.specs.Holes.{HasHole, first_fit, taken_from, released, total, are_spaced};
 
 use crate::block::Block;
 use crate::hole::HoleList;
@@ -18,7 +20,7 @@ pub struct Heap {
     bytes: usize,
     holes: HoleList,
     ghost fits: { IsRegionSize bytes × (holes.region.start + bytes ≡ holes.region.end) },
-    ghost coalesced: { IsTrue (spaced (bottom holes.region) holes.holes) },
+    ghost coalesced: { IsTrue (are_spaced (bottom holes.region) holes.holes) },
     ghost counted: { used + total holes.holes + 16 ≡ bytes },
 }
 
@@ -65,9 +67,9 @@ impl Heap {
 
     /// The block has the layout's size rounded up to 16, and is aligned to 16.
     pub fn allocate_first_fit(&mut self, layout: Layout) -> Result<Block, AllocError>
-        ensures succeeds { IsOk result ↔ ((layout_align layout ≤ 16) × Fits (block_size (layout_size layout)) (heap_holes self.old)) }
+        ensures succeeds { IsOk result ↔ ((layout_align layout ≤ 16) × HasHole (block_size (layout_size layout)) (heap_holes self.old)) }
         ensures block { IfOk result (λ b. (b.region ≡ heap_region self.old) × (b.size ≡ block_size (layout_size layout)) × (b.at ≡ first_fit b.size (heap_holes self.old))) }
-        ensures taken { IfOk result (λ b. heap_holes self.new ≡ taken b.size (heap_holes self.old)) }
+        ensures taken_from { IfOk result (λ b. heap_holes self.new ≡ taken_from b.size (heap_holes self.old)) }
         ensures unchanged { IfErr result (λ _. heap_holes self.new ≡ heap_holes self.old) }
         ensures region { (heap_region self.new ≡ heap_region self.old) × (heap_size self.new ≡ heap_size self.old) }
     {
@@ -82,8 +84,8 @@ impl Heap {
 
     pub(crate) fn take(&mut self, size: usize) -> Option<Block>
         requires { size < 2 ^ 63 }
-        ensures block { MatchOption result (¬ Fits (block_size size) (heap_holes self.old)) (λ b. Fits (block_size size) (heap_holes self.old) × (b.region ≡ heap_region self.old) × (b.size ≡ block_size size) × (b.at ≡ first_fit b.size (heap_holes self.old))) }
-        ensures holes { heap_holes self.new ≡ taken (block_size size) (heap_holes self.old) }
+        ensures block { MatchOption result (¬ HasHole (block_size size) (heap_holes self.old)) (λ b. HasHole (block_size size) (heap_holes self.old) × (b.region ≡ heap_region self.old) × (b.size ≡ block_size size) × (b.at ≡ first_fit b.size (heap_holes self.old))) }
+        ensures holes { heap_holes self.new ≡ taken_from (block_size size) (heap_holes self.old) }
         ensures region { (heap_region self.new ≡ heap_region self.old) × (heap_size self.new ≡ heap_size self.old) }
     {
         let size = align_size(size);

@@ -1,9 +1,10 @@
-// The list of holes, sorted by address. Each hole begins with its size and a pointer to the next.
-// The list begins with a dummy of size 0, in the first 16 bytes of the region.
+//! The list of holes, sorted by address. Each hole begins with its size and a pointer to the next.
+//! The list begins with a dummy of size 0, in the first 16 bytes of the region.
+
 ghost use Rattle.std.specs.Prelude.{◌≡◌, ℕ, ◌+◌, ◌-◌, ◌^◌, ◌<◌, ◌≤◌, List, [], ◌∷◌, ◌++◌, IsTrue, MatchResult, MatchOption};
 ghost use denote.RawPtr.{block_ptr, block_of, count_of};
 ghost use Rattle.lent_heap.specs.Region.{Region, IsRegion, IsBlockSize, region_of, bottom};
-ghost use Rattle.lent_heap.specs.Holes.{Span, Fits, first_fit, taken, released, in_order, IsCursor, Skips, Splits, Advances, Inserts, merged};
+ghost use Rattle.lent_heap.specs.Holes.{Span, HasHole, first_fit, taken_from, released, in_order, IsCursor, Skips, Splits, Advances, Inserts, merged};
 ghost use Rattle.lent_heap.specs.Ownership.{chain, chain_to};
 
 use crate::block::Block;
@@ -79,8 +80,8 @@ impl HoleList {
     pub(crate) fn allocate_first_fit(self, size: usize) -> (HoleList, Option<Block>)
         requires { IsBlockSize size }
         ensures region { result.0.region ≡ self.region }
-        ensures holes { result.0.holes ≡ taken size self.holes }
-        ensures block { MatchOption result.1 (¬ Fits size self.holes) (λ b. Fits size self.holes × (b.at ≡ first_fit size self.holes) × (b.size ≡ size) × (b.region ≡ self.region)) }
+        ensures holes { result.0.holes ≡ taken_from size self.holes }
+        ensures block { MatchOption result.1 (¬ HasHole size self.holes) (λ b. HasHole size self.holes × (b.at ≡ first_fit size self.holes) × (b.size ≡ size) × (b.region ≡ self.region)) }
     {
         let mut cursor = self.cursor();
         loop {

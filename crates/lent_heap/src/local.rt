@@ -1,3 +1,5 @@
+//! A heap as the allocator of one thread's collections.
+
 ghost use Rattle.std.specs.Prelude.{◌≡◌, ◌^◌, ◌<◌, ◌≤◌, IfSome, None};
 ghost use Rattle.lent_heap.specs.Region.{block_size};
 ghost use Rattle.lent_heap.specs.Ownership.{block_token};

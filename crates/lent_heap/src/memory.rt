@@ -1,4 +1,5 @@
-// The region that a heap manages, as its caller lends it.
+//! The memory that a heap manages, as its caller lends it for good.
+
 ghost use Rattle.std.specs.Prelude.{◌≡◌, ◌+◌, ◌%◌, ◌^◌, ◌<◌};
 ghost use denote.RawPtr.{count_of};
 ghost use Rattle.lent_heap.specs.Ownership.{bytes_at};

@@ -1,4 +1,5 @@
-// A cell that holds a heap over one region, or nothing while the heap is in use.
+//! A cell that holds a heap over one region, or nothing while the heap is in use.
+
 ghost use Rattle.std.specs.Prelude.{◌≡◌, IfSome};
 ghost use base.Fml.{fex, fsep, ftrue};
 ghost use Rattle.lent_heap.specs.Region.{Region};

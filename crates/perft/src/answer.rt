@@ -1,7 +1,9 @@
+//! A line that asks for leaves, and its answer.
+
 ghost use Rattle.std.specs.Prelude.{◌≡◌, ◌≤◌, ◌-◌, length, decimal, IfSome};
 ghost use Rattle.chess_fen.specs.Reading.{fen_reading};
 ghost use Rattle.byte_streams.specs.Words.{after_first_word, words, trimmed};
-ghost use Rattle.perft.specs.Answers.{answer, answer_to, count_text, depth_in, fault_text, gaps, is_full};
+ghost use Rattle.perft.specs.Answers.{answer, answer_to, count_text, written_depth, fault_line, separators, is_full};
 
 use crate::leaves::{LastPly, leaves};
 use arrayvec::ArrayString;
@@ -21,9 +23,9 @@ pub type Answer = ArrayString<64>;
 
 /// The depth that a word writes: a decimal number from 0 to 16 without needless zeros. So few plies are far from the end of
 /// the stack.
-#[tactic(auto, unfolding(crate::specs::Answers::depth_in))]
+#[tactic(auto, unfolding(crate::specs::Answers::written_depth))]
 fn read_depth(word: &[u8]) -> Option<u32>
-    ensures value { result ≡ depth_in word.now }
+    ensures value { result ≡ written_depth word.now }
     ensures at_most { IfSome result (λ depth. depth ≤ 16) }
 {
     (0..17u32).find(|depth| Buffer::new().format(*depth).as_bytes() == word)
@@ -41,7 +43,7 @@ fn number(number: u64) -> Answer
 /// `fault N NAME`.
 fn fault(number: u8, name: &str) -> Answer
     requires { length name.now ≤ 32 }
-    ensures { result.bytes ≡ fault_text number name.now }
+    ensures { result.bytes ≡ fault_line number name.now }
 {
     let mut text = Answer::new();
     text.push_str("fault ");
@@ -65,7 +67,7 @@ fn count(depth: u32, fen: &[u8], last: LastPly) -> Answer
 
 /// The answer to a line `DEPTH FEN`: the number of leaves, or the first fault, of the depth or of the FEN.
 fn answer_depth(line: &[u8], last: LastPly) -> Answer
-    ensures { result.bytes ≡ answer_to (words gaps line.now) (trimmed gaps (after_first_word gaps line.now)) }
+    ensures { result.bytes ≡ answer_to (words separators line.now) (trimmed separators (after_first_word separators line.now)) }
 {
     let mut text = Answer::new();
     let Some((word, rest)) = split_word(line, GAPS) else {

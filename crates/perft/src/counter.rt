@@ -1,5 +1,7 @@
+//! Lines answered by the leaves that they ask for, over a reader and a writer.
+
 ghost use Rattle.std.specs.Prelude.{◌≡◌, None, false};
-ghost use Rattle.perft.specs.Lines.{CountEnds, kept, line_text};
+ghost use Rattle.perft.specs.Lines.{CountEnds, kept, line_answer};
 
 use crate::answer::answer;
 use arrayvec::ArrayString;
@@ -22,7 +24,7 @@ pub struct Counter;
 
 // What is written for a line that is too long.
 fn long_line() -> Text
-    ensures { result.bytes ≡ line_text None }
+    ensures { result.bytes ≡ line_answer None }
 {
     let mut text = Text::new();
     text.push_str("fault LongLine\n");
@@ -31,7 +33,7 @@ fn long_line() -> Text
 
 // What is written for a line.
 fn whole_line(line: &[u8]) -> Text
-    ensures { result.bytes ≡ line_text (kept line.now) }
+    ensures { result.bytes ≡ line_answer (kept line.now) }
 {
     if line.len() > LINE_LIMIT {
         return long_line();
@@ -49,11 +51,11 @@ fn whole_line(line: &[u8]) -> Text
 impl LineHandler for Counter {
     ghost use Rattle.std.specs.Prelude.{false};
     ghost use Rattle.chess_loop.specs.Runs.{InOne};
-    ghost use Rattle.perft.specs.Lines.{Answers};
+    ghost use Rattle.perft.specs.Lines.{AnswersAlone};
 
-    ghost step = { InOne Answers };
+    ghost step = { InOne AnswersAlone };
 
-    ghost cut = { InOne Answers };
+    ghost cut = { InOne AnswersAlone };
 
     ghost over = { λ counter. false };
 

@@ -1,3 +1,5 @@
+//! The leaves of a position at a depth, counted or made.
+
 ghost use Rattle.std.specs.Prelude.{◌≡◌, ◌+◌, ◌-◌, ◌^◌, ◌≤◌, min};
 ghost use Rattle.perft.specs.Leaves.{leaves_of};
 

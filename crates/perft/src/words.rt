@@ -1,3 +1,5 @@
+//! The words after the program's name: none but `--help` and `--version`.
+
 use chess_command_line::{Refused, VERSION, why_refused};
 use clap::{Command, Error};
 use std::alloc::Global;

@@ -18,7 +18,7 @@ use Rattle.chess_cli.specs.declared.board_command.answer.Pending.TheVariants.{No
 use Rattle.chess_cli.specs.declared.board_command.refusal.Refusal.{Refusal}
 use Rattle.chess_cli.specs.declared.board_command.refusal.Refusal.TheVariants.{Argument}
 use Rattle.chess_cli.specs.Numbers.{path_in, path_text}
-use Rattle.chess_cli.specs.Answers.{Effect, Refuses, best_text, if_it_exists, no_memory, says_line}
+use Rattle.chess_cli.specs.Answers.{Effect, Refuses, best_text, if_it_exists, memory_refusal, says_line}
 
 -- the answer is on the page, but for a path or a game, which may be long
 abbrev pub IsOnPage : Pending → TreeParts → List ℕ → List ℕ → List ℕ → Type 0
@@ -28,7 +28,7 @@ IsOnPage Game t page page1 text = (page1 ≡ page) × (game_text (untagged t.tre
 
 -- the game's text, or that there is no memory for it
 abbrev pub IsGameText : TreeParts → List ℕ → Type 0
-IsGameText t text = (text ≡ game_text (untagged t.tree)) ⊎ (text ≡ no_memory)
+IsGameText t text = (text ≡ game_text (untagged t.tree)) ⊎ (text ≡ memory_refusal)
 
 -- `goto`: to the node of the path, if there is one
 abbrev pub path_effect : TreeParts → Option (List ℕ) → Effect

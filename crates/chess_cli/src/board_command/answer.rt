@@ -1,3 +1,5 @@
+//! What is left of an answer to be written, and the answers `ok` and `refused`.
+
 ghost use Rattle.std.specs.Prelude.{◌≡◌, ◌+◌, ◌≤◌, ◌++◌, length};
 ghost use Rattle.chess_cli.specs.Answers.{refused, ok_or_refused};
 

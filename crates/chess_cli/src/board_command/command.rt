@@ -1,6 +1,8 @@
+//! What a line of the board asks for: the commands, and how a line is read as one.
+
 ghost use Rattle.std.specs.Prelude.{◌≡◌, Some, None, IfSome, IfNone, option_map};
 ghost use Rattle.byte_streams.specs.Words.{words};
-ghost use Rattle.chess_cli.specs.Requests.{gaps, request, without_return, alone, alone_named, with_rest, only_word as only_word_of, colour_in, nag_in, written_by};
+ghost use Rattle.chess_cli.specs.Requests.{word_gaps, request, without_return, alone, alone_named, with_rest, only_word as only_word_of, colour_in, nag_in, written_by};
 ghost use Rattle.chess_cli.specs.steps.Commands.{later_alone, request_of};
 
 use super::numbers::number_in;
@@ -79,7 +81,7 @@ fn without_return(line: &[u8]) -> &[u8]
 
 // The command, where nothing comes after it.
 fn alone<'a>(command: Command<'a>, rest: &[u8]) -> Command<'a>
-    ensures { request_of result ≡ alone (request_of command.entry) (words gaps rest.now) }
+    ensures { request_of result ≡ alone (request_of command.entry) (words word_gaps rest.now) }
 {
     match split_word(rest, GAPS) {
         None => command,
@@ -107,8 +109,8 @@ fn nag_in(word: &[u8]) -> Option<u8>
 
 // The word after the command, where there is one alone.
 fn only_word(rest: &[u8]) -> Option<&[u8]>
-    ensures some { IfSome result (λ word. only_word_of (words gaps rest.now) ≡ Some word.now) }
-    ensures none { IfNone result (only_word_of (words gaps rest.now) ≡ None) }
+    ensures some { IfSome result (λ word. only_word_of (words word_gaps rest.now) ≡ Some word.now) }
+    ensures none { IfNone result (only_word_of (words word_gaps rest.now) ≡ None) }
 {
     let (word, others) = split_word(rest, GAPS)?;
     match split_word(others, GAPS) {

@@ -1,3 +1,5 @@
+//! Paths written as child numbers with periods between them: looked up in the tree, and followed.
+
 ghost use Rattle.std.specs.Prelude.{◌≡◌, ◌∷◌, Ok, bytes_eq, codes, false, option_and_then, option_map};
 ghost use Rattle.chess_tree.specs.Forest.{child};
 ghost use Rattle.chess_cli.specs.Answers.{Does};

@@ -1,3 +1,5 @@
+//! How a list of moves and a set of squares are written, with single spaces.
+
 ghost use Rattle.std.specs.Prelude.{◌≡◌, ◌+◌, ◌≤◌, ◌∷◌, ◌++◌, filter, length, map};
 ghost use Rattle.std.specs.FinSet.{contains};
 ghost use Rattle.arrayvec.specs.ArrayString.{array_string_len};

@@ -1,3 +1,5 @@
+//! The board between two lines of input, and how it answers each line.
+
 ghost use Rattle.std.specs.Prelude.{◌≡◌, ℕ, List, ◌+◌, ◌<◌, ◌≤◌, ◌++◌, ◌∷◌, [], IfErr, IfOk, IfSome, OnErr, OnOk, decimal, is_some, length, map, nat_lt, false, true};
 ghost use Rattle.std.specs.FinSet.{contains};
 ghost use Rattle.std.specs.Fmt.{signed_decimal};
@@ -18,7 +20,7 @@ ghost use Rattle.chess_tree.specs.declared.fault.TreeFault.TheVariants.{Memory a
 ghost use Rattle.chess_cli.specs.Loads.{from_root};
 ghost use Rattle.chess_cli.specs.Outcomes.{claims_text};
 ghost use Rattle.chess_cli.specs.Numbers.{depth_in, path_in};
-ghost use Rattle.chess_cli.specs.Answers.{Answers, AnswersRequest, Does, HasEffect, beginning, checks_of, claim_effect, comment_effect, counts_of, has_words, if_it_exists, list_text, move_effect, names_new, not_at_root, play_effect, set_effect, reply, takes_memory, tree_from};
+ghost use Rattle.chess_cli.specs.Answers.{Answers, AnswersRequest, Does, HasEffect, new_tree, checks_of, claim_effect, comment_effect, counts_of, has_words, if_it_exists, list_text, move_effect, names_new, not_at_root, play_effect, set_effect, reply, takes_memory, tree_from};
 ghost use Rattle.chess_cli.specs.steps.Replies.{IsGameText, IsOnPage, best_effect, path_effect};
 ghost use Rattle.chess_cli.specs.Requests.{Pgn, Play, request};
 ghost use Rattle.chess_loop.specs.steps.Sending.{Sends};
@@ -84,7 +86,7 @@ fn start_position() -> Position
 impl<'k, A: Allocator> Board<'k, A> {
     /// The board as a game begins, with the keys of that table; `Memory` where there is none.
     pub fn new(alloc: &'k A, table: &'k KeyTable) -> Result<Board<'k, A>, TreeFault>
-        ensures { IfOk result (λ board. board ≡ beginning) }
+        ensures { IfOk result (λ board. board ≡ new_tree) }
     {
         let analysis = Analysis::new(alloc, start_position(), table)?;
         Ok(Board {

@@ -1,3 +1,5 @@
+//! The numbers that words of a line write: a child's place, and a search's depth.
+
 ghost use Rattle.std.specs.Prelude.{◌≡◌, ◌≤◌, IfSome};
 ghost use Rattle.std.specs.Char.{is_ascii_digit};
 ghost use Rattle.std.specs.List.{list_all};

@@ -1,3 +1,5 @@
+//! How the draws that may be claimed and a best move with its score are written.
+
 ghost use Rattle.std.specs.Prelude.{◌≡◌, ◌≤◌, length};
 ghost use Rattle.chess_search.specs.Slices.{IsInRange};
 ghost use Rattle.chess_cli.specs.Outcomes.{claims_text};

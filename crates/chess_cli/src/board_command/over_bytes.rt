@@ -1,7 +1,9 @@
+//! The command `board` over bytes in memory.
+
 ghost use Rattle.std.specs.Prelude.{◌≡◌, ◌≢◌, ◌≤◌, ◌<◌, ℕ, List, [], ◌++◌, true, false, length, ◌⊎◌};
 ghost use Rattle.chess_items.specs.declared.fault.PgnFault.{PgnFault};
 ghost use Rattle.chess_tree.specs.GameTree.{TreeParts};
-ghost use Rattle.chess_cli.specs.Answers.{Answers, beginning};
+ghost use Rattle.chess_cli.specs.Answers.{Answers, new_tree};
 ghost use Rattle.chess_loop.specs.RunEnds.{IsPrefix, most_reads};
 ghost use Rattle.chess_loop.specs.InputLines.{lines_of, ended_lines};
 ghost use Rattle.chess_loop.specs.Runs.{Runs};
@@ -22,14 +24,14 @@ pub fn board_over_bytes<A: Allocator>(
     requires reader { reader.old.failed ≡ false }
     requires writer { writer.old.failed ≡ false }
     ensures good { result ≡ Ended.Good → (text : List ℕ) × (state : TreeParts)
-        × Runs Answers beginning (lines_of reader.old.left) text state × (writer.new.taken ≡ writer.old.taken ++ text)
+        × Runs Answers new_tree (lines_of reader.old.left) text state × (writer.new.taken ≡ writer.old.taken ++ text)
         × (reader.new.failed ≡ false) × (writer.new.failed ≡ false) }
     ensures read_fault { result ≡ Ended.ReadFault → (given : List ℕ) × (text : List ℕ) × (state : TreeParts)
         × (reader.old.left ≡ given ++ reader.new.left) × ((reader.new.failed ≡ true) ⊎ (most_reads ≤ length given))
-        × Runs Answers beginning (ended_lines [] given) text state × (writer.new.taken ≡ writer.old.taken ++ text) × (writer.new.failed ≡ false) }
+        × Runs Answers new_tree (ended_lines [] given) text state × (writer.new.taken ≡ writer.old.taken ++ text) × (writer.new.failed ≡ false) }
     ensures write_fault { result ≡ Ended.WriteFault → (given : List ℕ) × (lines : List (List ℕ)) × (text : List ℕ) × (prefix : List ℕ) × (rest : List ℕ) × (state : TreeParts)
         × (reader.old.left ≡ given ++ reader.new.left) × IsPrefix lines (lines_of given)
-        × Runs Answers beginning lines text state × (text ≡ prefix ++ rest) × (0 < length rest) × (writer.new.taken ≡ writer.old.taken ++ prefix)
+        × Runs Answers new_tree lines text state × (text ≡ prefix ++ rest) × (0 < length rest) × (writer.new.taken ≡ writer.old.taken ++ prefix)
         × (reader.new.failed ≡ false) × (writer.new.failed ≡ true) }
     ensures memory { result ≡ Ended.Memory → (reader.new ≡ reader.old) × (writer.new ≡ writer.old) }
     ensures input { (fault : PgnFault) → result ≢ Ended.Input fault }

@@ -1,3 +1,5 @@
+//! The command `board` over a reader and a writer, until the input ends or a call fails.
+
 ghost use Rattle.std.specs.Prelude.{◌≡◌, false};
 ghost use Rattle.chess_cli.specs.Endings.{BoardEnds};
 ghost use Rattle.chess_loop.specs.RunEnds.{most_reads};

@@ -1,3 +1,5 @@
+//! How the path to the cursor is written.
+
 ghost use Rattle.std.specs.Prelude.{◌≡◌, ◌+◌, ◌≤◌, ◌++◌, ◌∷◌, [], length};
 ghost use Rattle.chess_cli.specs.Numbers.{path_text};
 ghost use Rattle.chess_cli.specs.steps.Pieces.{next_place};

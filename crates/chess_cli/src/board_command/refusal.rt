@@ -1,3 +1,5 @@
+//! Why a line of the board is refused: each refusal with its number and its name.
+
 use chess_fen::FenFault;
 use chess_san::SanFault;
 use chess_tree::{PlayFault, TreeFault};
@@ -35,11 +37,11 @@ pub enum Refusal {
 
 impl Refusal {
     ghost use Rattle.std.specs.Prelude.{◌≡◌, ◌≤◌, length};
-    ghost use Rattle.chess_cli.specs.Refusals.{number_of, name_of};
+    ghost use Rattle.chess_cli.specs.Refusals.{refusal_number, refusal_name};
 
     /// The refusal's number.
     pub fn number(self) -> u8
-        ensures { result ≡ number_of self }
+        ensures { result ≡ refusal_number self }
     {
         match self {
             Refusal::Fen(fault) => fault.number(),
@@ -56,7 +58,7 @@ impl Refusal {
 
     /// The refusal's name, as `AtRoot`.
     pub fn name(self) -> &'static str
-        ensures value { result.now ≡ name_of self }
+        ensures value { result.now ≡ refusal_name self }
         ensures short { length result.now ≤ 32 }
     {
         match self {

@@ -1,3 +1,5 @@
+//! The law of a clock that is asked for the time.
+
 /// A clock. Contracts know which readings a call may give: of a clock that is asked for the machine's time, any.
 pub trait Clock {
     ghost use Rattle.std.specs.Prelude.{ℕ};

@@ -1,3 +1,5 @@
+//! The command `uci` over a reader, a writer and a clock, until `quit` or the end of the input.
+
 ghost use Rattle.std.specs.Prelude.{◌≡◌, false};
 ghost use Rattle.chess_cli.specs.Endings.{TimedSessionEnds};
 ghost use Rattle.chess_cli.specs.TimedSessions.{beginning_with};

@@ -1,3 +1,5 @@
+//! A session of UCI that asks a clock for the time at each line, and searches root by root between lines.
+
 ghost use Rattle.std.specs.Prelude.{◌≡◌, ◌+◌, ◌≤◌, ◌++◌, ℕ, length};
 ghost use Rattle.chess_uci.specs.declared.reply.Reply.{Reply};
 ghost use Rattle.chess_uci.specs.Machine.{IsAhead};

@@ -1,3 +1,5 @@
+//! The tags that are found while a game is read, the first value of each name.
+
 ghost use Rattle.std.specs.Prelude.{◌≡◌, [], List, ℕ, Option, Some, None, is_some, option_map, unwrap_or, IfOk, OnOk};
 ghost use Rattle.chess_pgn.specs.Games.{tag_in};
 ghost use Rattle.chess_pgn.specs.Tags.{Ascend, HasTags};

@@ -1,3 +1,5 @@
+//! Tags read item by item, and the position that they begin the game with.
+
 ghost use Rattle.std.specs.Prelude.{◌≡◌, ◌≤◌, ◌⊎◌, [], List, ℕ, true, false, ◌||◌, ◌&&◌, if◌then◌else◌, is_some, bytes_eq, codes, IfOk, IfErr, IfSome, OnOk};
 ghost use Rattle.chess_items.specs.Items.{TagOpen};
 ghost use Rattle.chess_items.specs.declared.fault.FaultKind.TheVariants.{Memory, Tag};

@@ -1,3 +1,5 @@
+//! The tree and the line of a game that is read, begun only once there is a move or a comment.
+
 ghost use Rattle.std.specs.Prelude.{◌≡◌, ◌<◌, ◌≤◌, ◌++◌, ◌∷◌, [], IfErr, IfOk, IsTrue, MatchResult, None, Ok, OnOk, length, slice_get, take, true};
 ghost use Rattle.chess_types.specs.board.Position as position;
 ghost use Rattle.chess_types.specs.board.Legal.{is_legal};

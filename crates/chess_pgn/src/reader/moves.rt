@@ -1,3 +1,5 @@
+//! Movetext read item by item: moves, annotations, comments and variations.
+
 ghost use Rattle.std.specs.Prelude.{◌≡◌, ◌<◌, ◌≤◌, if◌then◌else◌, ◌||◌, not, ◌++◌, ◌∷◌, [], List, ℕ, drop, take, length, map, min, true, Ok, IfErr, IfOk, IsTrue, OnOk};
 ghost use Rattle.chess_types.specs.board.Position as position;
 ghost use Rattle.chess_types.specs.board.Position.{PositionParts};

@@ -1,3 +1,5 @@
+//! Tests of reading games: moves and variations, tags, ends of texts, faults, and games one after another.
+
 ghost use Rattle.std.specs.Prelude.{◌<◌};
 ghost use Rattle.chess_pgn.specs.Sources.{IsSound};
 

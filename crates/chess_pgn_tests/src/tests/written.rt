@@ -1,3 +1,5 @@
+//! Tests of writing games: movetext, other starts, lines of 79 bytes, and want of memory.
+
 ghost use Rattle.std.specs.Prelude.{◌≤◌};
 
 use super::common::{NO_MEMORY, a_table, is_written, unless_no_memory};

@@ -1,3 +1,5 @@
+//! What the tests of rows share: layouts, games, and whether rows are written so.
+
 use arrayvec::ArrayVec;
 use chess_pgn::{Game, read_game};
 use chess_positions::{Column, Format, Layout, header, rows};

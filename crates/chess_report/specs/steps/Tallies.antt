@@ -8,7 +8,7 @@ use Rattle.chess_types.specs.board.Repetition as laws
 use Rattle.chess_types.specs.board.Outcome.{status, claims, is_play}
 use Rattle.chess_report.specs.declared.report.Over.{Over}
 use Rattle.chess_report.specs.declared.tally.Tally.{Tally}
-use Rattle.chess_report.specs.MainLine.{as_far, greatest, least}
+use Rattle.chess_report.specs.MainLine.{as_far, greatest_below, least}
 use Rattle.chess_report.specs.Findings.{is_over}
 
 -- where the game was over first, so far
@@ -22,5 +22,5 @@ pub record IsTally (line : Line) (n : ℕ) (t : Tally) : Type 0 where
   pub why : IfSome t.over (λ o. o.why ≡ status (as_far o.ply line))
   pub threefold : t.threefold ≡ least (λ k. (claims (as_far k line)).threefold) n
   pub fifty : t.fifty ≡ least (λ k. (claims (as_far k line)).fifty) n
-  pub repetitions : t.repetitions ≡ greatest (λ k. laws.repetitions (as_far k line)) n
-  pub quiet : t.quiet ≡ greatest (λ k. (last (as_far k line)).clock) n
+  pub repetitions : t.repetitions ≡ greatest_below (λ k. laws.repetitions (as_far k line)) n
+  pub quiet : t.quiet ≡ greatest_below (λ k. (last (as_far k line)).clock) n

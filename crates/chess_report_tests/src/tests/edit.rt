@@ -1,3 +1,5 @@
+//! Tests of tags that are set, and of games that are joined.
+
 use chess_edit::{JoinFault, TagFault, clear_tag, join, set_tag};
 use chess_pgn::{Game, read_game, write_game};
 use chess_types::Position;

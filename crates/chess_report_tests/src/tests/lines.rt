@@ -1,3 +1,5 @@
+//! Tests of outcomes by the Laws, of lines that are copied, and of moves with their texts.
+
 ghost use Rattle.std.specs.Prelude.{◌≡◌, IfSome};
 ghost use Rattle.chess_types.specs.board.Position.{start};
 

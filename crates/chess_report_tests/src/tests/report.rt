@@ -1,3 +1,5 @@
+//! A test of the report on a game that ends in mate.
+
 use chess_pgn::read_game;
 use chess_report::Report;
 use chess_types::Status;

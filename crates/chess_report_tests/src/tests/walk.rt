@@ -1,3 +1,5 @@
+//! Tests of walks over a game's nodes, in order, in part, and with the moves made.
+
 use chess_key::KeyTable;
 use chess_tree::{Analysis, Tree};
 use chess_types::{Move, Position};

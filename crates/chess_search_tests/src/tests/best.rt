@@ -1,3 +1,5 @@
+//! Tests of best moves and their scores, beside plain minimax, and of searches a root at a time.
+
 ghost use Rattle.std.specs.Prelude.{◌≡◌};
 
 use crate::tests::plain::{MIDDLE_GAMES, START, at, plain_best};

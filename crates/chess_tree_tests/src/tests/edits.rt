@@ -1,3 +1,5 @@
+//! Tests of edits: variations promoted and deleted, notes, and children in order.
+
 use super::calls::Call::{Add, AddNag, Back, Delete, End, Goto, Promote, SetComment, Start, Step};
 use super::calls::Look::{
     Below, ChildCount, Comment, Depth, Find, Has, Nags, Path, Place, Played, RootCount,

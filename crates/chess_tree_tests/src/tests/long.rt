@@ -1,3 +1,5 @@
+//! Tests of long lines, full trees and nodes with many children.
+
 use super::calls::Call::{Add, Back, Delete, End, First, Goto, Promote, Start, Step};
 use super::calls::Look::{ChildCount, Depth, Path, Played};
 use super::calls::Row::{Does, Fails, Shows};

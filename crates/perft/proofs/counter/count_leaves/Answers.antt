@@ -1,4 +1,4 @@
-use Rattle.perft.specs.Lines.{Answers}
+use Rattle.perft.specs.Lines.{AnswersAlone}
 use Rattle.chess_loop.proofs.RunEndLemmas.{never_over, unread_ends, whole_ends}
 use Rattle.perft.proofs.counter.count_leaves.Goals as goal
 
@@ -9,17 +9,17 @@ returns g c =
       good = λ is. (
         _,
         last,
-        never_over Answers _ g.R.Source g.W.Sink last c.args.reader.now c.run.new.reader c.args.writer.now c.run.new.writer (c.run.ensures.good is),
+        never_over AnswersAlone _ g.R.Source g.W.Sink last c.args.reader.now c.run.new.reader c.args.writer.now c.run.new.writer (c.run.ensures.good is),
       );
       read_fault = λ is. (
         _,
         last,
-        unread_ends Answers _ g.R.Source g.W.Sink 1099511627776 last c.args.reader.now c.run.new.reader c.args.writer.now c.run.new.writer (c.run.ensures.read_fault is),
+        unread_ends AnswersAlone _ g.R.Source g.W.Sink 1099511627776 last c.args.reader.now c.run.new.reader c.args.writer.now c.run.new.writer (c.run.ensures.read_fault is),
       );
       write_fault = λ is. (
         _,
         last,
-        whole_ends Answers _ g.R.Source g.W.Sink last c.args.reader.now c.run.new.reader c.args.writer.now c.run.new.writer (c.run.ensures.write_fault is),
+        whole_ends AnswersAlone _ g.R.Source g.W.Sink last c.args.reader.now c.run.new.reader c.args.writer.now c.run.new.writer (c.run.ensures.write_fault is),
       );
       memory = λ is. (let kept = c.run.ensures.memory is in (kept.1, kept.2));
     }

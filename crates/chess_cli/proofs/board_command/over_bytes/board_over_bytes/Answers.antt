@@ -2,7 +2,7 @@ use Rattle.std.proofs.Common.{◌≡◌, ◌++◌, ◌∷◌, [], List, ℕ, ref
 use Rattle.byte_streams.specs.Calls.{joined}
 use Rattle.byte_streams.specs.Lent.{Left, Written}
 use Rattle.byte_streams.proofs.CallLemmas.{Calls-left, Calls-taken}
-use Rattle.chess_cli.specs.Answers.{Answers, beginning}
+use Rattle.chess_cli.specs.Answers.{Answers, new_tree}
 use Rattle.chess_loop.specs.InputLines.{ended_lines}
 use Rattle.chess_loop.proofs.RunLemmas.{Runs-append}
 use Rattle.chess_loop.proofs.RunEndLemmas.{lines_first, left_after, many_or}
@@ -55,7 +55,7 @@ returns-clause-write_fault g c = λ is.
       how.0,
       left,
       lines_first (λ (s : Left). s.left ≡ []) earlier.pieces earlier.piece end.lines c.board.new.reader end.awaited,
-      Runs-append Answers beginning earlier.middle how.0 (ended_lines [] (joined earlier.pieces)) end.lines earlier.text end.more earlier.answers end.answers_last,
+      Runs-append Answers new_tree earlier.middle how.0 (ended_lines [] (joined earlier.pieces)) end.lines earlier.text end.more earlier.answers end.answers_last,
       ap (λ (x : List ℕ). earlier.text ++ x) (sym broken.whole) ∙ sym (append_assoc earlier.text broken.prefix broken.rest),
       broken.unwritten,
       taken,
