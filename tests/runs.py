@@ -15,7 +15,7 @@ with open(f"{TOP}/VERSION", encoding="utf-8") as text:
     VERSION = text.read().strip()
 
 # No run takes a second, but for a machine with much else to do.
-MOST_SECONDS = 120
+MOST_SECONDS = 600
 
 SEVEN_TAGS = """\
 [Event "?"]

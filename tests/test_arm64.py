@@ -121,7 +121,7 @@ class OnArm64(unittest.TestCase):
         for name in PROGRAMS:
             path = self.emulated(name)
             with open("/dev/full", "wb") as full:
-                ended = subprocess.run([path, *(["board"] if name == "chess" else [])], input=b"new\n1 8/8/8/8/8/8/8/8 w - - 0 1\n*\n", stdout=full, stderr=subprocess.PIPE, timeout=60)
+                ended = subprocess.run([path, *(["board"] if name == "chess" else [])], input=b"new\n1 8/8/8/8/8/8/8/8 w - - 0 1\n*\n", stdout=full, stderr=subprocess.PIPE, timeout=600)
             self.assertNotEqual(ended.returncode, 0, name)
 
     def test_a_clock_that_goes(self):
@@ -132,7 +132,7 @@ class OnArm64(unittest.TestCase):
             engine.stdin.write("position startpos\ngo infinite\nisready\nstop\nquit\n")
             engine.stdin.close()
             said = engine.stdout.read()
-        self.assertEqual(engine.wait(timeout=60), 0)
+        self.assertEqual(engine.wait(timeout=600), 0)
         self.assertIn("readyok\n", said)
         self.assertRegex(said, r"bestmove \w+")
 

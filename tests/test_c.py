@@ -138,7 +138,7 @@ class Library(unittest.TestCase):
         built = called("cc", "-std=c11", *STRICT, f"{self.folder}/read.c", f"{runs.TOP}/out/libjatshegi.a", "-o", f"{self.folder}/read")
         self.assertEqual(built.returncode, 0, built.stderr)
         text = "1. e4 *\n1. e5 *\n[A \"b\"]\n1. d4 {" + "x" * 200_000 + "} 1-0\n"
-        ran = subprocess.run([f"{self.folder}/read"], input=text, capture_output=True, text=True, timeout=60, check=True)
+        ran = subprocess.run([f"{self.folder}/read"], input=text, capture_output=True, text=True, timeout=600, check=True)
         self.assertEqual(ran.stdout, "a game of 7 bytes\nno game: a word that names no legal move, or more than one\na game of 200020 bytes\n")
 
     def test_each_allocation_refused(self):

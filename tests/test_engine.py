@@ -19,7 +19,7 @@ import runs
 ENGINE = f"{runs.TOP}/out/jatshegi"
 RELEASED = f"{runs.TOP}/release/x86_64-linux/bin/jatshegi"
 # Of a search that is far from its end: a machine with much else to do may take so many seconds to answer.
-SOON = 20
+SOON = 60
 SHARP = "q2k3r/1q5q/8/8/1b6/8/QP4PQ/R2K3q w - - 0 1"
 ONE_MOVE = "r1bqk2r/pppp1Qpp/2n2n2/2b1p3/4P3/8/PPPP1PPP/RNB1KBNR b KQkq - 0 4"
 POSITIONS = ["startpos", f"fen {SHARP}", f"fen {ONE_MOVE}", "startpos moves f2f3 e7e5 g2g4 d8h4", "startpos moves e2e4 e7e5", "startpos moves e2e5"]
@@ -242,7 +242,7 @@ class TheEngine(unittest.TestCase):
         for go, named in (("go infinite", True), ("go infinite searchmoves e2e4 d2d4 g1f3 b1c3 a2a3", False)):
             engine, depth = Program(), 0
             engine.say(go)
-            self.assertEqual(engine.wait(r"info depth .* currmove .*", 4) is not None, named, go)
+            self.assertEqual(engine.wait(r"info depth .* currmove .*", SOON if named else 4) is not None, named, go)
             engine.say("stop")
             engine.wait("bestmove .*")
             engine.end()

@@ -246,7 +246,7 @@ class Program(unittest.TestCase):
 
     def ran(self, *words, given=b""):
         environment = {**os.environ, "PYTHONPATH": PACKAGE}
-        return subprocess.run([sys.executable, "-m", "jatshegi", *words], input=given, stdout=subprocess.PIPE, stderr=subprocess.PIPE, env=environment, timeout=60)
+        return subprocess.run([sys.executable, "-m", "jatshegi", *words], input=given, stdout=subprocess.PIPE, stderr=subprocess.PIPE, env=environment, timeout=600)
 
     def test_a_board(self):
         lines = self.ran().stdout.decode().splitlines()
@@ -436,7 +436,7 @@ class Books(unittest.TestCase):
             with open(f"{folder}/games.pgn", "w", encoding="utf-8") as file:
                 file.write("\n".join(texts))
             words = ["polyglot", "make-book", "-pgn", "games.pgn", "-bin", "book.bin", "-min-game", "1", "-uniform"]
-            subprocess.run(words, cwd=folder, env={**os.environ, "PATH": PATH}, stdout=subprocess.DEVNULL, check=True, timeout=60)
+            subprocess.run(words, cwd=folder, env={**os.environ, "PATH": PATH}, stdout=subprocess.DEVNULL, check=True, timeout=600)
             moves = {}
             for board, move in played:
                 moves.setdefault(board.polyglot_key(), (board, set()))[1].add(move)

@@ -16,6 +16,8 @@ ELSEWHERE = {"bash", "cc", "git", "parallel", "pgn-extract", "polyglot", "sed", 
 ELSEWHERE |= {"no_std", "Sync", "to_string", "into_position", "San", "SanPlus", "Bitboard"}
 # Options of chess.js, and what one of its calls answers, on the page for JavaScript.
 ELSEWHERE |= {"skipValidation", "maxWidth", "newlineChar", "undefined"}
+# What PROMISES names of a crate though it is another's: laws of chess_theorems, and what its callers or C see.
+OF_OTHERS = {"Nothing", "search_laws", "abandoned_laws", "AnswersRequest", "JATSHEGI_EMPTY"}
 LETTERS = re.compile(r"[PNBRQK]+|[pnbrqk]+|[PNBRQKpnbrqk]{12}|([a-h][1-8]){2}")
 
 
@@ -146,6 +148,17 @@ class Pages(unittest.TestCase):
                 with self.subTest(paragraph=paragraph.strip().splitlines()[:1]):
                     self.assertLessEqual(len(paragraph.split()), 100)
 
+    def test_a_wrong_body_that_may_be_refused_by_a_name_has_a_dagger(self):
+        """Of the wrong bodies that PROMISES names those of tests/by_name.txt have one, and no other."""
+        by_name = {row.split("/")[1] for row in text_of("tests/by_name.txt").splitlines() if row and not row.startswith("#")}
+        bodies = {os.path.basename(it).removesuffix(".edit") for folder in ("must-fail", "wrong") for it in glob.glob(f"crates/*/{folder}/*.edit", root_dir=runs.TOP)}
+        self.assertLessEqual(by_name, bodies)
+        named = [(name, dagger) for name, dagger in re.findall(r"`(\w+)`(†?)", text_of("docs/PROMISES.md")) if name in bodies or dagger]
+        self.assertGreater(len(named), 150)
+        for name, dagger in named:
+            with self.subTest(wrong_body=name):
+                self.assertEqual(dagger == "†", name in by_name)
+
     def test_each_rule_shows_its_definition(self):
         laws = text_of("docs/LAWS.md")
         shown = {name for names in re.findall(r"<!-- from crates/chess_types/\S+: ([^>]*) -->", laws) for name in names.split()}
@@ -182,6 +195,21 @@ class Pages(unittest.TestCase):
                     for word in re.findall(r"[\w-]+", text):
                         with self.subTest(page=page, name=text):
                             self.assertTrue(word in self.words or word in ELSEWHERE or LETTERS.fullmatch(word))
+
+    def test_each_name_of_a_crates_paragraphs_is_of_that_crate(self):
+        """What PROMISES names of a crate the files of that crate name, too."""
+        words = {}
+        for path in self.files:
+            if path.endswith((".rt", ".antt")):
+                words.setdefault(path.split("/")[1], set()).update(re.findall(r"[A-Za-z_][\w-]*", text_of(path)))
+        page = text_of("docs/PROMISES.md")
+        parts = re.findall(r"^((?:\*\*\w+\*\*(?:, )?)+) \u2014 (.*?)(?=^\*\*\w+\*\*(?:,| \u2014)|^## |\Z)", page[page.index("**byte_streams**") :], flags=re.M | re.S)
+        self.assertGreater(len(parts), 25)
+        for heads, text in parts:
+            own = set().union(*(words.get(crate, set()) for crate in re.findall(r"\w+", heads)))
+            for name in re.findall(r"`([A-Za-z_]\w*)`(?! of chess_)", text):
+                with self.subTest(crates=heads, name=name):
+                    self.assertTrue(name in own or name in OF_OTHERS or LETTERS.fullmatch(name), name)
 
     def test_each_clause_that_is_named_is_one_of_its_function(self):
         named, count = named_in_clauses(self.files), 0

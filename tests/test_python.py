@@ -997,10 +997,10 @@ class NothingIsLost(unittest.TestCase):
                 with self.assertRaises(jatshegi.Error) as found:
                     call(word)
                 with self.assertRaises(type(found.exception)) as raised:
-                    pool.apply_async(call, (word,)).get(timeout=60)
+                    pool.apply_async(call, (word,)).get(timeout=600)
                 self.assertEqual((str(raised.exception), raised.exception.__dict__), (str(found.exception), found.exception.__dict__))
                 self.assertIsInstance(raised.exception, ValueError)
-            board = pool.apply_async(jatshegi.Board, ("4k3/8/8/8/8/8/4P3/4K3 w - - 0 1",)).get(timeout=60)
+            board = pool.apply_async(jatshegi.Board, ("4k3/8/8/8/8/8/4P3/4K3 w - - 0 1",)).get(timeout=600)
         self.assertEqual(len(board.legal_moves), 6)
 
     def test_what_is_read_and_written_has_the_same_bytes(self):

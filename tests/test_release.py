@@ -306,11 +306,11 @@ class TheCommand(unittest.TestCase):
     def test_a_build_that_is_ended_ends_its_proofs(self):
         path = self.build_by(":", f'echo "$$" >>"{self.top}/proofs" && exec sleep 600')
         build = subprocess.Popen([f"{self.top}/build"], stdin=subprocess.DEVNULL, stderr=subprocess.DEVNULL, env={"PATH": path})
-        end = time.monotonic() + 60
+        end = time.monotonic() + 600
         while not os.path.exists(f"{self.top}/proofs") and time.monotonic() < end:
             time.sleep(0.05)
         build.terminate()
-        self.assertNotEqual(build.wait(timeout=60), 0)
+        self.assertNotEqual(build.wait(timeout=600), 0)
         # (build doesn't wait for what it has ended)
         left = {int(number) for number in read(f"{self.top}/proofs").split()}
         while left and time.monotonic() < end:

@@ -26,7 +26,7 @@ CHESS = f"{runs.TOP}/release/x86_64-linux/bin/chess"
 PACKAGES = ["chromium", "chromium-driver", "python3-selenium"]
 MARKERS = ["*", "1-0", "0-1", "1/2-1/2"]
 # So long a wait is for what never comes; what comes is seen at once.
-PATIENCE = int(os.environ.get("PATIENCE", 120))
+PATIENCE = int(os.environ.get("PATIENCE", 300))
 
 # What a script in the page does with the package's modules, `it`, and a memory of its own.
 WITH_MODULE = """
