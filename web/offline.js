@@ -1,6 +1,6 @@
 // Keeps the page's own files of one version in the browser, so that it opens without a net. A new version replaces them as a whole.
 // The list is written by tools/offline.
-const VERSION = 'edec1afb87ad0df4';
+const VERSION = '56d60b01d3f8a226';
 const KEPT = {
   'about.html': 'sha256-Nej96tHtdAtdlyGQe8vatahf+8xzSspGu5FMrkPCPo4=',
   'analysis.js': 'sha256-HEt6WdaSY5AdMpPx1XJ656qoNwyFD3arwtzyKmaoHxc=',
@@ -18,7 +18,7 @@ const KEPT = {
   'history.js': 'sha256-b2xYiCnIoEXfhgI8jth/7pFno7cjEuzPowCCkZyQYLc=',
   'icon.svg': 'sha256-MIqbBfrY8jneIrbk+mcJq7TJSYDbHm5LwjQhbWTpmWU=',
   'index.html': 'sha256-ZhZjDArkABU0LWOo2tqF3ERQhKalgiMVD+tiY4DL4Qk=',
-  'jatshegi.wasm': 'sha256-EpTYOMAZ53BdAayN8wpXBRumw76SZZyt9OAbf6XRm34=',
+  'jatshegi.wasm': 'sha256-pHhJtD95GtbZWlQ4pq63jlG/6dcef3brYGSwEYmDaF0=',
   'jatshegi/src/boards.js': 'sha256-6isIqeZIN17Febcuk+uu5izw+q54Nzh/Xe8remjeGyY=',
   'jatshegi/src/bytes.js': 'sha256-L1KCUkgWQXHkntmbRa68OSfnQGFQUXUkQyDSGxZvCyE=',
   'jatshegi/src/chess.js': 'sha256-4warCUwICiXymOiSwpCwZQiBU//8FOYOp1IPe1sbAFA=',
@@ -26,7 +26,7 @@ const KEPT = {
   'jatshegi/src/core.js': 'sha256-VSNkI741KH5gVMOLBLvGx7hW8xeEIkyhOM1fClHceWk=',
   'jatshegi/src/errors.js': 'sha256-1dHDKRiTmZutoLveX/EjRUwQgtCuLswLbieQhB4xB3c=',
   'jatshegi/src/export.js': 'sha256-6EEw1K1/6ALnZHKQM0XneV5Et8Cn/FOwvVxu1ChTL8A=',
-  'jatshegi/src/games.js': 'sha256-owonooJrkaDCrwekILUVZWdBXHODj0buvXEw/Te2Zzc=',
+  'jatshegi/src/games.js': 'sha256-9hPoFN6AqyqAsdkZC660m4VOu6aYJ6Bt1AlSZhtzgwA=',
   'jatshegi/src/index.js': 'sha256-mocQUaLq8bxWPxO71uIaOojQtkUlJgyqLRFkkpf+E/Y=',
   'jatshegi/src/memory.js': 'sha256-n5z2XjKTZzxXU+labT8XvxqRmIdwDAhq4zcGgDh1nB0=',
   'jatshegi/src/move.js': 'sha256-4GxtQFFRwS8wWMZYQVl+WqWhy5qp0pHlLW75pHBGnHg=',
