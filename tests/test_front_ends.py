@@ -37,7 +37,7 @@ class XBoard(unittest.TestCase):
     @unittest.skipIf(missing("xboard", "polyglot", "fairymax", "xvfb-run"), "xboard, polyglot, fairymax or xvfb-run is not installed")
     def test_a_game_to_its_end(self):
         """Against Fairy-Max, both three plies deep, so that no clock decides."""
-        with tempfile.TemporaryDirectory() as folder:
+        with tempfile.TemporaryDirectory(ignore_cleanup_errors=True) as folder:
             script = lines_for("XBoard").rstrip() + " -scp fairymax -mg 1 -tc 60 -depth 3 -sgf game.pgn -noGUI -popupExitMessage false"
             subprocess.run(
                 ["xvfb-run", "-a", "sh", "-ec", script], cwd=folder, env=ENVIRONMENT, stdin=subprocess.DEVNULL, capture_output=True, timeout=300

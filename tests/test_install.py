@@ -73,7 +73,7 @@ class Used(unittest.TestCase):
     """What is installed somewhere answers, by each of its ways."""
 
     def setUp(self):
-        folder = tempfile.TemporaryDirectory()
+        folder = tempfile.TemporaryDirectory(ignore_cleanup_errors=True)
         self.addCleanup(folder.cleanup)
         self.folder = folder.name
 

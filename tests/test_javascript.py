@@ -167,20 +167,23 @@ class InBrowsers(unittest.TestCase):
     """The package, unpacked, in a page of another: the same answers as by Node."""
 
     def answers(self, new_browser):
-        with tempfile.TemporaryDirectory() as folder, tarfile.open(packed(folder)) as tar:
+        # (a browser writes to its folder until it has ended, so that goes after it)
+        folder = tempfile.mkdtemp()
+        self.addCleanup(shutil.rmtree, folder, ignore_errors=True)
+        with tarfile.open(packed(folder)) as tar:
             tar.extractall(folder)
-            shutil.copy(f"{PACKAGE}/test/anywhere.js", folder)
-            with open(f"{folder}/index.html", "w", encoding="utf-8") as file:
-                file.write("<!doctype html><title>a page</title>")
-            server = test_web.serve(folder)
-            self.addCleanup(test_web.stop, server)
-            browser = new_browser(folder)
-            self.addCleanup(browser.quit)
-            browser.get(f"http://127.0.0.1:{server.server_port}/index.html")
-            return browser.execute_async_script("""
-                const done = arguments[0];
-                Promise.all([import('/package/src/index.js'), import('/anywhere.js')]).then(async ([it, { default: all }]) => done(await all(it))).catch((error) => done(String(error)));
-            """)
+        shutil.copy(f"{PACKAGE}/test/anywhere.js", folder)
+        with open(f"{folder}/index.html", "w", encoding="utf-8") as file:
+            file.write("<!doctype html><title>a page</title>")
+        server = test_web.serve(folder)
+        self.addCleanup(test_web.stop, server)
+        browser = new_browser(folder)
+        self.addCleanup(browser.quit)
+        browser.get(f"http://127.0.0.1:{server.server_port}/index.html")
+        return browser.execute_async_script("""
+            const done = arguments[0];
+            Promise.all([import('/package/src/index.js'), import('/anywhere.js')]).then(async ([it, { default: all }]) => done(await all(it))).catch((error) => done(String(error)));
+        """)
 
     def wanted(self):
         ran = called("node", "--input-type=module", "-e", "import * as it from './src/node.js'; import all from './test/anywhere.js'; console.log(await all(it));", cwd=PACKAGE)

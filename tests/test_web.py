@@ -1198,7 +1198,7 @@ class InFirefox(unittest.TestCase):
                 self.end_headers()
 
         around = serve(WEB, Driven)
-        with tempfile.TemporaryDirectory() as folder:
+        with tempfile.TemporaryDirectory(ignore_cleanup_errors=True) as folder:
             words = ["firefox-esr", "--headless", "--no-remote", "--profile", folder, f"http://127.0.0.1:{around.server_port}/driver.html"]
             browser = subprocess.Popen(words, stdout=subprocess.DEVNULL, stderr=subprocess.DEVNULL, env={**os.environ, "HOME": folder})
             try:
