@@ -1,4 +1,4 @@
-//! Tests of attack counts: of the start position, the empty board, and a rook that others stand behind.
+//! Tests of attack counts: of the start position, the empty board, and a rook with other men on its lines.
 
 use super::boards::{board, start};
 use chess_attack::{Counts, in_check};
