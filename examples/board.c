@@ -1,4 +1,4 @@
-/* Plays the moves that are named, and says how the game stands:
+/* Plays the moves that are named, and prints the position and the game's status:
  * cc examples/board.c -Iinclude release/x86_64-linux/lib/libjatshegi.a -o board && ./board e4 e5 Bc4 Nc6 Qh5 Nf6 Qxf7 */
 #include <stdbool.h>
 #include <stdio.h>

@@ -1,4 +1,4 @@
-// Plays the moves that are named, and says how the game stands: node examples/board.mjs e4 e5 Bc4 Nc6 Qh5 Nf6 Qxf7
+// Plays the moves that are named, and prints the position and the game's status: node examples/board.mjs e4 e5 Bc4 Nc6 Qh5 Nf6 Qxf7
 import { Chess, ChessError } from '../web/jatshegi/src/node.js';
 
 const chess = new Chess();

@@ -94,7 +94,7 @@ enum jatshegi_status {
     JATSHEGI_PGN_TOO_LARGE = 49  /* more than 1,048,576 bytes, or 20,000 plies in a line */
 };
 
-/* What a status says, for people: a text that stays. */
+/* What a status says, for people: a constant text, not to be freed. */
 static inline const char *jatshegi_status_text(uint32_t status) {
     switch (status) {
     case JATSHEGI_OK: return "it is done";
@@ -139,7 +139,7 @@ static inline const char *jatshegi_status_text(uint32_t status) {
     }
 }
 
-/* How a game stands (FIDE Laws 5.1.1, 5.2.1, 5.2.2, 9.6). */
+/* The outcome of a game by the Laws (FIDE Laws 5.1.1, 5.2.1, 5.2.2, 9.6). */
 enum jatshegi_outcome {
     JATSHEGI_MATE = 0,
     JATSHEGI_STALEMATE = 1,
@@ -265,7 +265,7 @@ struct jatshegi_repair {
     uint32_t kind;  /* an enum jatshegi_repair_kind */
 };
 
-/* The name of a kind of repair: a text that stays; null where there is no such kind. */
+/* The name of a kind of repair: a constant text, not to be freed; null where there is no such kind. */
 static inline const char *jatshegi_repair_text(uint32_t kind) {
     static const char *const names[] = {
         "TagQuotes", "TagBracket", "TagName", "Castling", "Hyphen", "Colon", "Pawn", "Small", "Large", "Promotion", "Sign", "Said", "Value", "Result",
@@ -279,7 +279,7 @@ static inline const char *jatshegi_repair_text(uint32_t kind) {
 struct jatshegi_report {
     uint32_t plies;       /* the moves of the main line, at most 20,000 */
     uint32_t marker;      /* how the game ended, as its text says: an enum jatshegi_marker */
-    uint32_t status;      /* how the last position stands: an enum jatshegi_outcome */
+    uint32_t status;      /* the outcome at the last position: an enum jatshegi_outcome */
     uint32_t winner;      /* the side that has mated the other there: 0 for none, 1 for White, 2 for Black */
     uint32_t over;        /* the first ply at which the game is over; where that isn't the last, moves follow it */
     uint32_t why;         /* why it is over there, an enum jatshegi_outcome; JATSHEGI_PLAY where it never is */
@@ -341,8 +341,8 @@ uint32_t jatshegi_board_copy(const struct jatshegi_board *board, struct jatshegi
 void jatshegi_board_free(struct jatshegi_board *board);
 
 /*
- * Gives back what memory the board doesn't need between calls: the 65,536 bytes on which the answers to lines are written, which the first line asks for. The
- * board, its search and its session of the engine stay as they are. OK, EMPTY.
+ * Gives back the memory that the board doesn't need between calls: the 65,536 bytes into which answers to lines are written, and which the first line takes,
+ * also the first after this call. The board, its search and its session of the engine stay as they are. OK, EMPTY.
  */
 uint32_t jatshegi_board_trim(struct jatshegi_board *board);
 
@@ -375,9 +375,9 @@ uint32_t jatshegi_board_load_next(struct jatshegi_board *board, const char *text
 uint32_t jatshegi_board_fen(const struct jatshegi_board *board, char *text, size_t room, size_t *length);
 
 /*
- * The text by which the Laws tell positions apart, and its length, at most JATSHEGI_MOST_FEN: the first four fields of the FEN, with the en passant target only
- * where a legal move captures on it. Two positions are the same (FIDE Laws 9.2.3) exactly where they have the same text, so that it is a key for an opening
- * tree or a table of positions. It is an EPD without operations (PGN 16.2). OK, EMPTY, NO_ROOM.
+ * The text that shows which positions are the same by the Laws, and its length, at most JATSHEGI_MOST_FEN: the first four fields of the FEN, with the en
+ * passant target only where a legal move captures on it. Two positions are the same (FIDE Laws 9.2.3) exactly where they have the same text, so that it is a
+ * key for an opening tree or a table of positions. It is an EPD without operations (PGN 16.2). OK, EMPTY, NO_ROOM.
  */
 uint32_t jatshegi_board_epd(const struct jatshegi_board *board, char *text, size_t room, size_t *length);
 
@@ -403,7 +403,7 @@ uint32_t jatshegi_board_line(const struct jatshegi_board *board, struct jatshegi
  * Makes a move, and says whether it added a node: `false` where a child of the node at the cursor has the move. OK, EMPTY, NO_MEMORY, ILLEGAL, TOO_LONG,
  * FULL.
  *
- * A program that takes the move back keeps the answer, one for each move that it made, and hands it to jatshegi_board_undo.
+ * A program that takes the move back keeps the answer, one for each move that it made, and passes it to jatshegi_board_undo.
  */
 uint32_t jatshegi_board_play(struct jatshegi_board *board, struct jatshegi_move move, bool *added);
 
@@ -418,7 +418,7 @@ uint32_t jatshegi_board_back(struct jatshegi_board *board);
  * on the node, no child, comment or annotation number; else it stays, as with jatshegi_board_back. OK, EMPTY, AT_ROOT.
  *
  * With what the call that made the move wrote to its `added`, the tree and the cursor are then as they were before that call. It takes no memory. A program
- * that went elsewhere meanwhile hands over `false`: with `true` a node that was there before would be taken out, where nothing hangs on it.
+ * that went elsewhere meanwhile passes `false`: with `true` a node that was there before would be taken out, where nothing hangs on it.
  */
 uint32_t jatshegi_board_undo(struct jatshegi_board *board, bool added);
 
@@ -435,7 +435,7 @@ uint32_t jatshegi_board_write(const struct jatshegi_board *board, struct jatsheg
 uint32_t jatshegi_move_write(struct jatshegi_move move, char *text, size_t room, size_t *length);
 uint32_t jatshegi_move_read(const char *text, size_t length, struct jatshegi_move *move);
 
-/* How the game stands: an enum jatshegi_outcome. OK, EMPTY. */
+/* The outcome of the game: an enum jatshegi_outcome. OK, EMPTY. */
 uint32_t jatshegi_board_outcome(const struct jatshegi_board *board, uint32_t *outcome);
 
 /* The draws that may be claimed: enum jatshegi_claims, added up; with a move, in the position after it. OK, EMPTY; ILLEGAL. */
@@ -631,7 +631,7 @@ uint32_t jatshegi_board_clear_annotations(struct jatshegi_board *board);
  *
  * The line has been answered also where the answer is longer than the room for it. With room for JATSHEGI_MOST_ANSWER bytes that happens only to `path` and
  * `pgn`, which change nothing and may be asked again with more room. At NO_MEMORY it has not been answered, and all is as before; where there is memory for the
- * answer and none for what the line does, the answer is `refused 5 Memory`. The first line takes 65,536 bytes, which the board keeps (jatshegi_board_trim).
+ * answer and none for what the line does, the answer is `refused 5 Memory`. The first line takes 65,536 bytes, which the board keeps until jatshegi_board_trim.
  */
 uint32_t jatshegi_board_answer(struct jatshegi_board *board, const char *line, size_t length, char *answer, size_t room, size_t *count);
 
@@ -677,10 +677,10 @@ uint32_t jatshegi_game_pass(const char *text, size_t length, size_t *used);
  *
  * At OK one game is there, whatever follows, and `used` is its length: jatshegi_game_read and jatshegi_game_report have the same game of these bytes. At PGN_...
  * no game is, whatever follows, and `used` is what jatshegi_game_pass has of the whole text. At NO_GAME all is whitespace, and the last. At MORE the caller
- * asks again with more bytes behind these; at MORE and at NO_MEMORY `used` is as it was. So games and faults are those of the whole text, however it comes.
+ * asks again with more bytes after these; at MORE and at NO_MEMORY `used` is as it was. So games and faults are those of the whole text, however it comes.
  *
- * A call reads the bytes from their first one on, so they had better come in large pieces. Where there are more than 1,048,576, MORE says that they are white
- * space, or belong to a game that can't be read and is given up as far as the next section of tags: a caller may stop there.
+ * A call reads the bytes from their first one on, so they had better come in large pieces. Where there are more than 1,048,576, MORE says that they are
+ * whitespace, or belong to a game that can't be read and is given up as far as the next section of tags: a caller may stop there.
  */
 uint32_t jatshegi_game_next(const char *text, size_t length, bool is_last, size_t *used);
 

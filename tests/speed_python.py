@@ -2,7 +2,7 @@
 
     PYTHONPATH=python /usr/bin/python3 tests/speed_python.py
 
-The same random games for both, and each a second at least; `JATSHEGI_PLAIN=1` measures the package by ctypes alone. Not a test: what it prints stands in
+The same random games for both, and each a second at least; `JATSHEGI_PLAIN=1` measures the package by ctypes alone. Not a test: what it prints is in
 docs/PYTHON.md and docs/SPEED.md.
 """
 import gc
@@ -31,7 +31,7 @@ def random_games():
 
 
 def rate(work, count):
-    """How often a second of processor time the work is done, which does it so many times: the quickest of the passes that a second has."""
+    """How often a second of processor time the work is done, which does it `count` times: the quickest of the passes that a second has."""
     gc.collect()
     begin, best = time.process_time(), float("inf")
     while time.process_time() - begin < 1:
@@ -56,7 +56,7 @@ KIWIPETE = "r3k2r/p1ppqpb1/bn2pnp1/3PN3/1p2P3/2N2Q1p/PPPBBPPP/R3K2R w KQkq - 0 1
 
 
 def many(call, count):
-    """The call so many times."""
+    """The call `count` times."""
     for _ in range(count):
         call()
 
@@ -166,7 +166,7 @@ def theirs(games, file):
 
     passes = itertools.count()
 
-    # Its table of tags stands beside the file, so each pass has a file of its own.
+    # Its table of tags is beside the file, so each pass has a file of its own.
     def read():
         path = shutil.copy(file, file.replace(".pgn", f"-{next(passes)}.pgn"))
         opened = pgn.load(protoopen(path))

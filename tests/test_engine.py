@@ -18,7 +18,7 @@ import runs
 
 ENGINE = f"{runs.TOP}/out/jatshegi"
 RELEASED = f"{runs.TOP}/release/x86_64-linux/bin/jatshegi"
-# Of a search that is far from its end: a machine with much else to do may take so many seconds to answer.
+# Of a search that is far from its end: a machine with much else to do may take this number of seconds to answer.
 SOON = 60
 SHARP = "q2k3r/1q5q/8/8/1b6/8/QP4PQ/R2K3q w - - 0 1"
 ONE_MOVE = "r1bqk2r/pppp1Qpp/2n2n2/2b1p3/4P3/8/PPPP1PPP/RNB1KBNR b KQkq - 0 4"
@@ -45,7 +45,7 @@ class Program:
         self.process.stdin.flush()
 
     def read(self, seconds):
-        """Reads what comes within so many seconds, and returns whether anything did."""
+        """Reads what comes within this number of seconds, and returns whether anything did."""
         if not select.select([self.process.stdout], [], [], seconds)[0]:
             return False
         piece = self.process.stdout.read()
@@ -303,7 +303,7 @@ class TheEngine(unittest.TestCase):
 
 
 def play(count):
-    """Plays so many scripts, and prints the longest times of an answer in a search."""
+    """Plays this number of scripts, and prints the longest times of an answer in a search."""
     setUpModule()
     case = TheEngine()
     with tempfile.TemporaryDirectory() as case.folder:

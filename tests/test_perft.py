@@ -19,7 +19,7 @@ class Perft(unittest.TestCase):
         self.assertEqual((ended.returncode, ended.stdout, ended.stderr), (0, b"8902\n400\nfault Depth\nfault LongLine\n1\n", b""))
 
     def test_a_line_has_at_most_1024_bytes(self):
-        """With a line feed and without one, and white space alone as well."""
+        """With a line feed and without one, and whitespace alone as well."""
         small = "8/2p5/3p4/KP5r/1R3p1k/8/4P1P1/8 w - -"
         rows = [("0" * 1024, "fault Depth\n"), ("0" * 1025, "fault LongLine\n"), (f"\n \t\r\n02 {small} 0 1\n", "fault Depth\n"),
                 (" " * 1025 + "\n1 " + small, "fault LongLine\n14\n"), (f" 2\t{small}\r\n", "191\n")]

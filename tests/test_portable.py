@@ -28,7 +28,7 @@ def called(*words, **also):
 
 
 def script(count):
-    """So many lines of the board, of random games."""
+    """This number of lines of the board, of random games."""
     chance, lines = random.Random(70), []
     with open(f"{runs.TOP}/suite/games.txt", encoding="utf-8") as file:
         games = [line.split("|")[1].split() for line in file if "|" in line and not line.startswith("#")]

@@ -113,7 +113,7 @@ class BesideABoard(unittest.TestCase):
         sys.path.remove(PACKAGE)
 
     def check(self, board, found, number, result):
-        """The rows of one game, made again on the board, which stands where it begins."""
+        """The rows of one game, made again on the board, which is where it begins."""
         for ply, row in enumerate(found):
             move = None
             if ply:

@@ -483,7 +483,7 @@ class Games(unittest.TestCase):
         from jatshegi import pgn
 
         class Short:
-            """A file that hands out less than what is asked for."""
+            """A file that gives less than what is asked for."""
 
             def __init__(self, data):
                 self.data, self.at, self.most = data, 0, 0

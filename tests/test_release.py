@@ -280,6 +280,9 @@ class TheCommand(unittest.TestCase):
         self.assertEqual(read(f"{self.top}/builds"), b"built\n")
         self.change("crates/chess_types/src/lib.rt", b"//! ", b"//!  ")
         self.assertEqual(self.answers(path=path)[:2], (0, "ok\n0\n"))
+        self.assertEqual(read(f"{self.top}/builds"), b"built\n", "a comment changes nothing that is built")
+        self.change("crates/chess_types/src/lib.rt", b"mod board;", b"mod  board;")
+        self.assertEqual(self.answers(path=path)[:2], (0, "ok\n0\n"))
         self.assertEqual(read(f"{self.top}/builds"), b"built\nbuilt\n")
 
     def test_a_build_that_fails(self):

@@ -134,7 +134,7 @@ class Salvage(unittest.TestCase):
             self.assertEqual(sorted(said), sorted(lines), text)
 
     def test_more_bytes_than_are_at_hand(self):
-        """White space, and a comment, longer than what is read at once, and many games."""
+        """Whitespace, and a comment, longer than what is read at once, and many games."""
         game = games()[0].encode()
         for between in (b"\n" * 4_000_000, b"% " + b"x" * 4_000_000 + b"\n", b'[Event "a"]\n\n1. e4 {' + b"c" * 1_300_000 + b"} *\n\n"):
             saved = self.check(game + between + game)
@@ -161,7 +161,7 @@ class Salvage(unittest.TestCase):
             self.assertEqual((ended.returncode, b"--letters" in ended.stderr), (1, True), words)
 
     def test_the_end_of_a_file(self):
-        """White space, NUL and ^Z after the last game, at most 1,048,576 bytes, are no game; strict reading has a fault there, as ever."""
+        """Whitespace, NUL and ^Z after the last game, at most 1,048,576 bytes, are no game; strict reading has a fault there, as ever."""
         game = games()[0].strip().encode()
         for end in (b"\x1a", b"\r\n\x1a", b"\n \t\v\f\0\x1a\0\n", b"\0" * 1_048_576):
             with self.subTest(end=end[:9], length=len(end)):

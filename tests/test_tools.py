@@ -2,6 +2,8 @@
 import glob
 import importlib.machinery
 import importlib.util
+import pathlib
+import re
 import subprocess
 import unittest
 
@@ -19,6 +21,14 @@ class Tools(unittest.TestCase):
 
     def test_each_part_of_a_definition_has_its_example(self):
         self.assertIn(", 0 missed", self.ends_well("tools/parts"))
+
+    def test_no_text_of_the_sources_has_a_line_that_looks_like_a_comment(self):
+        """tools/prove leaves lines of comments out of what a crate is made from, and knows no texts."""
+        tokens = re.compile(r"//[^\n]*|b?'(?:\\.|[^'\\\n])'|\"(?:\\.|[^\"\\])*\"", re.DOTALL)
+        for path in glob.glob(f"{runs.TOP}/crates/*/src/**/*.rt", recursive=True) + glob.glob(f"{runs.TOP}/platforms/**/*.rt*", recursive=True):
+            for token in tokens.findall(pathlib.Path(path).read_text(encoding="utf-8")):
+                if token.startswith('"'):
+                    self.assertNotRegex(token, r"\n[ \t]*//", path)
 
     def test_the_parts_of_the_gate_are_the_whole(self):
         """Each file of tests/ is in one part; the first of several is `rt ci` alone, and a part that there isn't is refused."""

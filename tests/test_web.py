@@ -650,7 +650,7 @@ class InTheBrowser(unittest.TestCase):
         page.type("comment", "grüezi")
         page.until(lambda: "grüezi" in page.moves, "the comment is there")
         had = page.moves, page.fen
-        # The address follows a little later, so a link without the comment may stand there first.
+        # The address follows a little later, so a link without the comment may be there first.
         page.click("link")
         page.until(lambda: "link is copied" in page.text("told") or "#g=" in page.script("return document.getElementById('pgn').value"), "the link is copied")
         page.until(lambda: page.script("return document.documentElement.dataset.given") == page.script("return location.hash"), "the address has it")
@@ -808,7 +808,7 @@ class TheModule(unittest.TestCase):
         """, lines)
 
     def script(self, rng):
-        """Lines as they come, most of them moves that are legal where they stand."""
+        """Lines as they come, most of them moves that are legal where they are."""
         program = subprocess.Popen([CHESS, "board"], stdin=subprocess.PIPE, stdout=subprocess.PIPE)
         lines = []
 
@@ -1318,7 +1318,7 @@ const begins = (m) => {
 
 
 def long_games(plies):
-    """Games of so many plies, by the program: one line, and one with two more moves in each tenth place, each with a comment."""
+    """Games of this number of plies, by the program: one line, and one with two more moves in each tenth place, each with a comment."""
     rng, made = random.Random(1), []
     for each in (0, 10):
         program = subprocess.Popen([CHESS, "board"], stdin=subprocess.PIPE, stdout=subprocess.PIPE, text=True)

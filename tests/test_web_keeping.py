@@ -555,7 +555,7 @@ class Keeping(Browsing):
         self.assertEqual(self.text(), changed)
         page.until(lambda: page.text("howmany") == "3 games, and 1 that can\u2019t be read", "the games are listed again")
         written = self.saved_back(name)
-        # (the line that readers pass over stands before the game, and stays)
+        # (the line that readers pass over is before the game, and stays)
         self.assertEqual(written.decode(), games[0] + "\n\n% a line that readers pass over\n" + changed.rstrip() + "".join(games[2:]))
         page.script("document.querySelector('#own .open').click()")
         self.until_text(own)

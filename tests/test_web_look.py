@@ -13,7 +13,7 @@ SIZES = {"phone": (360, 740), "tablet": (768, 1024), "laptop": (1024, 768), "des
 GAME = ('[White "Caruana, Fabiano"]\n[Black "Nakamura, Hikaru"]\n[WhiteElo "2804"]\n[BlackElo "2802"]\n[Result "1-0"]\n\n1. e4 e5 2. Nf3 Nc6 3. Bc4 {The Italian.} Bc5 (3... Nf6 4. Ng5 $5 d5'
         ' 5. exd5 Na5 $1 {and not 5... Nxd5} (5... Nd4 6. c3)) 4. b4 $1 Bxb4 5. c3 Ba5 6. d4 exd4 7. O-O Nge7 8. cxd4 d5 9. exd5 Nxd5 10. Qb3 Be6 11. Qxb7 1-0')
 
-# The contrast of each text with what is behind it, and of each control's edge or icon, that is too low (WCAG 2.2, 1.4.3 and 1.4.11).
+# The contrast of each text with its background, and of each control's edge or icon, that is too low (WCAG 2.2, 1.4.3 and 1.4.11).
 FAINT = """
     const light = (part) => part <= 0.03928 ? part / 12.92 : ((part + 0.055) / 1.055) ** 2.4;
     const colour = (text) => text.match(/[\\d.]+/g).map(Number);
@@ -52,7 +52,7 @@ FAINT = """
     return low;
 """
 
-# The focus's ring beside what it stands on, and the marks of the board on both kinds of squares.
+# The focus's ring beside what it is on, and the marks of the board on both kinds of squares.
 MARKS = """
     const light = (part) => part <= 0.03928 ? part / 12.92 : ((part + 0.055) / 1.055) ** 2.4;
     const bright = ([r, g, b]) => 0.2126 * light(r / 255) + 0.7152 * light(g / 255) + 0.0722 * light(b / 255);

@@ -114,7 +114,7 @@ class Stepping(Browsing):
             for name in ("jatshegi_board_pgn", "jatshegi_board_load", "jatshegi_game_read", "jatshegi_game_report"):
                 self.assertEqual(after.get(name), before.get(name), (word, name))
             self.assertEqual((after["hasText"], self.unseen()), (False, 0), word)
-            # a question for each legal move, and so many beside, however long the game is; and one line more than the step
+            # a question for each legal move, and a limited number beside, however long the game is; and one line more than the step
             self.assertLess(sum(after.values()) - sum(before.values()), 100, word)
             self.assertEqual(after["jatshegi_board_answer"] - before["jatshegi_board_answer"], 2, word)
             before = after

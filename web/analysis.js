@@ -4,8 +4,8 @@ import { game, lines } from './game.js';
 
 const by = (id) => document.getElementById(id);
 
-// A worker hears a line only between two slices, and a slice is a root move searched to its end. One that doesn't stop within so many milliseconds is put away, and
-// another one, which was begun before, takes its place.
+// A worker hears a line only between two slices, and a slice is a root move searched to its end. One that doesn't stop within `PATIENCE`
+// milliseconds is put away, and another one, which was begun before, takes its place.
 const PATIENCE = 25;
 
 const engine = { worker: null, spare: null, searching: false, stopping: false, side: 'w', fen: '', wanted: null, done: null, reply: null, patience: 0, last: '', named: null, isHurried: false };
@@ -199,7 +199,7 @@ const drawEvaluation = () => {
   else drawBar(0, '\u00bd');
 };
 
-/** The position is drawn: where it is another, its evaluation is shown, and the engine told. */
+/** The position is drawn: where it is another, its evaluation is shown, and the engine gets it. */
 export const positionDrawn = (isMoved) => {
   if (engine.last !== game.state.fen) {
     engine.last = game.state.fen;

@@ -141,7 +141,7 @@ export class Board {
     return this.shown.castlings.filter((it) => it.king === this.chosen).map((it) => it.rook);
   }
 
-  // The coordinates stand in corners that no man covers.
+  // The coordinates are in corners that no man covers.
   names(name) {
     const [file, number] = name;
     const found = [];

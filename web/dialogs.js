@@ -1,7 +1,7 @@
 // Dialogs and the menu: each is opened by a button with `data-opens`, and closed by Escape, its cross, or a click beside it.
 const by = (id) => document.getElementById(id);
 
-// The menu stands at its button.
+// The menu is at its button.
 const beside = (box, button) => {
   const a = button.getBoundingClientRect();
   const b = box.getBoundingClientRect();

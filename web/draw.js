@@ -72,7 +72,7 @@ const moveButton = (text) => {
   return button;
 };
 
-// A move's number, which Black's needs only where something stands between it and White's.
+// A move's number, which Black's needs only where something is between it and White's.
 const numberOf = (row, before) => (row.number.endsWith('...') && before?.kind === 'move' && !before.comment ? '' : row.number);
 
 const isWhites = (row) => row.number !== '' && !row.number.endsWith('...');
@@ -84,7 +84,7 @@ const inColumns = ({ row, number, text }) => {
   return [...(number ? [element('span', number, 'number'), ' '] : []), button, ' '];
 };
 
-// The list is drawn in pieces of so many moves of the main line, each with its variations: what is the same as before stays.
+// The list is drawn in pieces of `PIECE` moves of the main line, each with its variations: what is the same as before stays.
 const PIECE = 40;
 
 // The pieces of a list of rows: what each shows, its moves, and all of its words, by which it is compared.
@@ -200,7 +200,7 @@ const markCurrent = (row) => {
 
 let announced = { path: '-', fen: '' };
 
-// What is said to who doesn't see: the move that led here, and how the game stands.
+// What is said to who doesn't see: the move that led here, and the game's status.
 const announce = (row) => {
   const { path, fen } = game.state;
   if (announced.path === path && announced.fen === fen) return;

@@ -23,7 +23,7 @@ export const inTurn = (work) => {
 };
 export const settled = () => turn;
 
-/** As `inTurn`, and an error is told. */
+/** As `inTurn`, and an error is reported. */
 export const doing = (work) => {
   game.acts++;
   return inTurn(work).catch((error) => {

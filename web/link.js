@@ -59,10 +59,10 @@ export const keepLink = (isTurned) => {
 /** Whether the page shows the board with its moves alone, in a frame of another page. */
 export const isEmbedded = () => new URLSearchParams(location.search).has('embed');
 
-/** What the address holds: a game, `{held, path, isTurned}` or `{pgn, path, isTurned}`, a position, `{fen, isTurned}`, or null. */
-export const linked = () => {
-  const words = new URLSearchParams(location.hash.slice(1));
-  const before = new URLSearchParams(location.search);
+/** What an address holds, the page's own or another: a game, `{held, path, isTurned}` or `{pgn, path, isTurned}`, a position, `{fen, isTurned}`, or null. */
+export const linked = ({ hash, search } = location) => {
+  const words = new URLSearchParams(hash.slice(1));
+  const before = new URLSearchParams(search);
   const isTurned = words.has('f') || before.has('f');
   const [held, pgn] = [words.get('g'), words.get('pgn')];
   if (held || pgn) return { held, pgn, path: words.get('p') ?? '-', isTurned };

@@ -152,7 +152,7 @@ const copy = async (text, what) => {
   }
 };
 
-// What goes out has the comment that is being typed, and an error is told.
+// What goes out has the comment that is being typed, and an error is reported.
 const out = (give) => async () => {
   try {
     if (!await doing(isSettled)) return;
@@ -295,8 +295,9 @@ const main = async () => {
   game.history.note({ origin: null, pgn: state.pgn, path: state.path });
   drawTags();
   await (isEmbedded() ? framed() : beginning());
-  addEventListener('hashchange', () => {
-    const link = linked();
+  // (by the event's address: the page's own may hold the game before by now)
+  addEventListener('hashchange', ({ newURL }) => {
+    const link = linked(new URL(newURL));
     if (link) openLink(link);
   });
   by('lacking').hidden = true;

@@ -43,7 +43,7 @@ const writtenNow = () => {
   return written;
 };
 
-// ---- How the board stands.
+// ---- The state of the board.
 
 const MOST_WITH = 5;
 
@@ -98,7 +98,7 @@ const first = (bytes) => {
   return { status, used, text: status === OK ? fromBytes(theMemory().handed()) : '' };
 };
 
-// Where a game begins after what stands before it: that is as much as the module finds no game in, if it reads the same game from there.
+// Where a game begins after what comes before it: that is as much as the module finds no game in, if it reads the same game from there.
 const begins = (bytes, { place, length, bytes: text }) => {
   const at = Number(theMemory().put(bytes.subarray(place, place + length))[0]);
   const isWhite = (many) => read((session) => session.game(at, many)).status === NONE;
@@ -119,7 +119,7 @@ const MARK = 'THE PLACE OF THE FAULT';
 // What the module repairs where a text before a fault ends: what is open there gets its end.
 const OPEN = ['Comment', 'Unclosed'];
 
-// Where the module hangs a comment that stands at the end of a text: the `node`, in the `game` that it saves of the text, and whether something `isOpen` there.
+// Where the module hangs a comment that is at the end of a text: the `node`, in the `game` that it saves of the text, and whether something `isOpen` there.
 // Null where more than that is to be repaired.
 const hung = (text) => {
   let mark = MARK;

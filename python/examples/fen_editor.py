@@ -29,7 +29,7 @@ EDITS = {
 
 
 def edit(lines, board):
-    """Does each edit on a copy of the board before, so that one that is refused, or taken back, leaves nothing; and says what stands then."""
+    """Does each edit on a copy of the board before, so that one that is refused, or taken back, leaves nothing; and shows the position after it."""
     before = []
     for word, *words in filter(None, map(str.split, lines)):
         other = board.copy()

@@ -2,7 +2,7 @@
 
     python3 opening_tree.py games.pgn 6
 
-Positions are told apart by `epd`, so ways that lead to the same position meet.
+Positions are the same where their `epd` is, so ways that lead to the same position meet.
 """
 import sys
 from collections import defaultdict

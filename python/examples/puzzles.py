@@ -1,4 +1,5 @@
-"""Checks puzzles: of each line, a FEN, a tab and a number of moves, whether the side to move mates in so many moves and not in fewer, and by which first moves.
+"""Checks puzzles: of each line, a FEN, a tab and a number of moves, whether the side to move mates in that many moves and not in fewer, and by which
+first moves.
 
     python3 puzzles.py <puzzles.txt
 """
@@ -8,7 +9,7 @@ import jatshegi
 
 
 def mates(board, moves):
-    """Whether the side to move mates in so many moves: a mate is worth 30,000 less its plies."""
+    """Whether the side to move mates in this number of moves: a mate is worth 30,000 less its plies."""
     best = board.best(2 * moves - 1)
     return best is not None and best[1] >= 30000 - (2 * moves - 1)
 

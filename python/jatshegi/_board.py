@@ -228,7 +228,7 @@ class Board(Core, Calls, Habits):
         self._call(c.lib.jatshegi_board_key, "polyglot_key", byref(key))
         return key.value
 
-    # A text of a position that a function of the library hands out.
+    # A text of a position that a function of the library writes.
     def _short(self, function: Callable[..., int], what: str) -> str:
         text, count = _FenRoom(), c_size_t()
         with self._lock:
@@ -318,7 +318,7 @@ class Board(Core, Calls, Habits):
 
     @property
     def status(self) -> Status:
-        """How the game stands (FIDE Laws 5.1.1, 5.2.1, 5.2.2, 9.6); `Status.PLAY` where it goes on."""
+        """The game's status (FIDE Laws 5.1.1, 5.2.1, 5.2.2, 9.6); `Status.PLAY` where it goes on."""
         return _STATUSES[self._outcome()]
 
     def outcome(self, *, claim_draw: bool = False) -> Optional[Outcome]:
@@ -560,7 +560,7 @@ class Board(Core, Calls, Habits):
         assert answer is not None
         return answer
 
-    # The bytes that a function of the library hands out; None where there are none of that name or at that place.
+    # The bytes that a function of the library writes; None where there are none of that name or at that place.
     def _handed(self, function: Callable[..., int], what: object, *words: object) -> Optional[bytes]:
         text, count = _AnswerRoom(), c_size_t()
         with self._lock:

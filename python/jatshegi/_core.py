@@ -169,7 +169,7 @@ class Plain:
         """The moves that led to the position, from the game's start, in the order in which they were made."""
         return self._moves(c.lib.jatshegi_board_line, "move_stack")
 
-    # The moves that a function of the library hands out.
+    # The moves that a function of the library writes.
     def _moves(self, function: Callable[..., int], what: str) -> List[Move]:
         moves, count = (c.CMove * 64)(), c_size_t()
         with self._lock:
@@ -284,7 +284,7 @@ class Plain:
         self._call(c.lib.jatshegi_board_attackers, "attackers", which >> 6, which & 63, byref(found))
         return found.value
 
-    # The number of how the game stands.
+    # The number of the game's status.
     def _outcome(self) -> int:
         number = c_uint32()
         self._call(c.lib.jatshegi_board_outcome, "status", byref(number))
@@ -292,7 +292,7 @@ class Plain:
 
 
 def _found() -> Any:
-    """The module in C, told where the library's functions are; None where it hasn't been built, or where the environment has JATSHEGI_PLAIN."""
+    """The module in C, given the addresses of the library's functions; None where it hasn't been built, or where the environment has JATSHEGI_PLAIN."""
     if os.environ.get("JATSHEGI_PLAIN"):
         return None
     # Beside this file, else beside the released library of a clone.

@@ -84,7 +84,7 @@ class Engine:
         return _lines(room, count)
 
     def moment(self, milliseconds: int) -> List[str]:
-        """The replies once the clock reads so many milliseconds, from any moment on: a search whose time is over ends."""
+        """The replies once the clock reads this number of milliseconds, from any moment on: a search whose time is over ends."""
         moment = whole(milliseconds, "a moment is a number of milliseconds, 0 to 2^64 - 1", 0, (1 << 64) - 1)
         return self._replies(c.lib.jatshegi_engine_moment, moment)
 

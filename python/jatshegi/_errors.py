@@ -11,7 +11,7 @@ class EmptyBoardError(Error):
 
 
 class InvalidFenError(Error, ValueError):
-    """The text is no FEN, or no position that may stand on a board; `fault` is the number of the first fault, 1 to 10."""
+    """The text is no FEN, or no position that may be on a board; `fault` is the number of the first fault, 1 to 10."""
 
     def __init__(self, text: str, fault: int, why: str) -> None:
         super().__init__(text, fault, why)

@@ -1,6 +1,6 @@
 /*
  * The calls of a board that are made most often, without ctypes: `Core`, as jatshegi/_core.py has it. It carries numbers and texts between Python and the library,
- * whose functions it is handed by address (`begin`), and decides nothing. By the limited interface of Python 3.9, so that one file is for all versions since:
+ * whose functions it gets by address (`begin`), and decides nothing. By the limited interface of Python 3.9, so that one file is for all versions since:
  *
  *     cc -O2 -fPIC -shared -I include $(python3-config --includes) python/jatshegi/_fast.c -o python/jatshegi/_fast.abi3.so
  *

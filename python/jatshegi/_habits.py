@@ -141,7 +141,7 @@ class Habits:
         """Whether a man of that colour attacks the square (FIDE Laws 3.1.2)."""
         return bool(self.attackers(color, square))
 
-    # ---- how the game stands
+    # ---- the game's status
 
     def is_checkmate(self) -> bool:
         """Whether the side to move is mated (FIDE Laws 5.1.1).

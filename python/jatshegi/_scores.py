@@ -71,7 +71,7 @@ def Cp(cp: int) -> Score:
 
 
 def Mate(moves: int) -> Score:
-    """A mate in so many moves; below 0, or 0, the side is mated."""
+    """A mate in this number of moves; where it is 0 or less, the side is mated."""
     return Score((2 if moves > 0 else 0, -moves))
 
 
@@ -157,8 +157,8 @@ class Option(NamedTuple):
 
 
 class Limit(NamedTuple):
-    """When a search ends: after so many seconds, at a depth in plies, after so many positions, at a mate in so many moves, or by the players' clocks in
-    seconds."""
+    """When a search ends: after a time in seconds, at a depth in plies, after a number of positions, at a mate in a number of moves, or by the players' clocks
+    in seconds."""
 
     time: Optional[float] = None
     depth: Optional[int] = None

@@ -1,4 +1,4 @@
-"""How a game stands, and how it ended."""
+"""A game's status, and how it ended."""
 from __future__ import annotations
 
 import enum
@@ -6,7 +6,7 @@ from typing import NamedTuple, Optional
 
 
 class Status(enum.IntEnum):
-    """How a game stands: the first of these that holds (FIDE Laws 5.1.1, 5.2.1, 5.2.2, 9.6)."""
+    """A game's status: the first of these that holds (FIDE Laws 5.1.1, 5.2.1, 5.2.2, 9.6)."""
 
     CHECKMATE = 0
     STALEMATE = 1

@@ -1,4 +1,4 @@
-"""Games in export form (PGN 3.2) taken apart: by `_fast.c` where it has been built, else here. All work on bytes, as the library does."""
+"""Parses games in export form (PGN 3.2): by `_fast.c` where it has been built, else here. All work on bytes, as the library does."""
 from __future__ import annotations
 
 import re

@@ -120,7 +120,7 @@ def _show(node: Node, board: Board, visitor: BaseVisitor[_Result]) -> None:
 
 class StringExporter(BaseVisitor[str]):
     """The text of a game, or of a move and all that follows, with or without its tags, its comments and annotations, and its variations; in lines of less
-    than so many bytes, or in one. By default that of a game is the one in export form, `str(game)`.
+    than `columns` bytes, or in one. By default that of a game is the one in export form, `str(game)`.
 
     >>> game = jatshegi.pgn.read_game("1. e4 {best by test} e5 (1... c5) 2. Nf3 *")
     >>> game.accept(jatshegi.pgn.StringExporter(headers=False, comments=False, columns=None)).strip()

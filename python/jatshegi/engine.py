@@ -66,7 +66,7 @@ class SimpleEngine:
 
     def __init__(self, command: Union[str, Sequence[str]], *, timeout: Optional[float] = 10.0, **popen_args: Any) -> None:
         """Starts the program, and waits until it says that it speaks UCI. `timeout` is how many seconds an answer may take, beyond the time of a search; None
-        for any. Raises `OSError` where it can't be started, else `EngineError`. A text is taken apart as a shell does."""
+        for any. Raises `OSError` where it can't be started, else `EngineError`. A text is split as a shell does."""
         self._lock, self._timeout, self._left = threading.RLock(), timeout, b""
         # Whether the answer to a search is still to come that an exception has left.
         self._is_owed = False
@@ -221,8 +221,8 @@ class SimpleEngine:
     def analyse(
         self, board: Board, limit: Limit, *, multipv: Optional[int] = None, root_moves: Optional[Iterable[Move]] = None
     ) -> Union[InfoDict, List[InfoDict]]:
-        """What the engine says of the position: its score, the line of moves that it awaits, and more; with `multipv` of so many lines, as a list. Raises
-        `EngineError` for a move that isn't legal."""
+        """What the engine says of the position: its score, the line of moves that it awaits, and more; with `multipv` of that number of lines, as a list.
+        Raises `EngineError` for a move that isn't legal."""
         with self._lock:
             infos, _ = self._searched(board, limit, 1 if multipv is None else multipv, root_moves)
             return infos[0] if multipv is None else infos
@@ -340,7 +340,7 @@ def _root(board: Board, moves: Optional[Iterable[Move]]) -> List[str]:
 
 
 def _position(board: Board) -> str:
-    """The line that tells an engine the position, and the moves that led there."""
+    """The line that gives an engine the position, and the moves that led there."""
     start = board.copy()
     start._call(c.lib.jatshegi_board_start, "start")
     fen, moves = start.fen(), " ".join(move.uci() for move in board.move_stack)

@@ -10,8 +10,8 @@
     >>> game.board().fen()
     'rnbqkbnr/pppppppp/8/8/8/8/PPPPPPPP/RNBQKBNR w KQkq - 0 1'
 
-A game is read by the proved reader of the library, which hands it out in export form (PGN 3.2): each move legal, its text the standard one. This module
-takes that text apart, which is tested. What is changed of a game is changed by the library, on a board that holds it; `Game()` is one without moves.
+A game is read by the proved reader of the library, which writes it in export form (PGN 3.2): each move legal, its text the standard one. This module
+parses that text, which is tested. What is changed of a game is changed by the library, on a board that holds it; `Game()` is one without moves.
 
 Games are bytes. They are read in UTF-8, and a game whose bytes are none in ISO 8859-1, the encoding of the standard (PGN 4.1); `encoding` names another one.
 `bytes(game)` are the game's own bytes, whatever it is.
@@ -143,7 +143,7 @@ class Report(NamedTuple):
     plies: int
     #: How the game ended, as its text says: '1-0', '0-1', '1/2-1/2' or '*'.
     marker: str
-    #: How the last position stands.
+    #: The status at the last position.
     status: Status
     #: The side that has mated the other there: WHITE, BLACK or None.
     winner: Optional[bool]
@@ -580,7 +580,7 @@ class _Texts:
                 return None
             self._more()
 
-    # The export form of a game that strict reading refuses, where it can be saved; then its repairs are handed on. No byte, where no game is there.
+    # The export form of a game that strict reading refuses, where it can be saved; then its repairs are passed on. No byte, where no game is there.
     def _saved(self) -> Optional[bytes]:
         assert self._repaired is not None
         while True:

@@ -56,7 +56,7 @@ class Reader:
         one_of(filename, (str, os.PathLike), "a book has a path")
         with open(filename, "rb") as file:
             size = os.fstat(file.fileno()).st_size
-            # (nothing can be mapped of an empty file; a private mapping may be handed to the library, which only reads it)
+            # (nothing can be mapped of an empty file; a private mapping may be passed to the library, which only reads it)
             self._map = mmap.mmap(file.fileno(), 0, access=mmap.ACCESS_COPY) if size else None
         self._size = size
         self._bytes = (c_char * size).from_buffer(self._map) if self._map else (c_char * 1)()

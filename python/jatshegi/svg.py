@@ -66,7 +66,7 @@ def _man(man: Piece) -> str:
 
 
 def piece(piece: Piece, size: Optional[int] = None) -> str:
-    """A picture of a man, so many pixels wide and high.
+    """A picture of a man, `size` pixels wide and high.
 
     >>> jatshegi.svg.piece(jatshegi.Piece.from_symbol("R"), size=40).count("<path")
     3

@@ -12,7 +12,7 @@ use core::str::FromStr;
 /// The table that all boards share, which is only read. No answer depends on its words, so they may be zeros.
 static KEYS: sys::Keys = sys::Keys { words: [0; 768] };
 
-/// How a game is (FIDE Laws 5.1.1, 5.2.1, 5.2.2, 9.6).
+/// A game's status (FIDE Laws 5.1.1, 5.2.1, 5.2.2, 9.6).
 #[derive(Clone, Copy, Debug, PartialEq, Eq, Hash)]
 pub enum Status {
     /// The side to move is mated.
@@ -374,7 +374,7 @@ impl Board {
         checked(unsafe { sys::jatshegi_board_undo(self.at(), added) })
     }
 
-    /// How the game is at the cursor.
+    /// The game's status at the cursor.
     pub fn status(&self) -> Status {
         // SAFETY: the number is written.
         Status::of(self.asked(0, |slot, status| unsafe { sys::jatshegi_board_outcome(slot, status) }))

@@ -6,13 +6,13 @@ use crate::sys;
 /// What is at the start of the bytes of a text that have come.
 #[derive(Clone, Copy, Debug, PartialEq, Eq, Hash)]
 pub enum Next {
-    /// One game, of so many bytes, whatever follows.
+    /// One game, and its length in bytes, whatever follows.
     Game(usize),
     /// No game, whatever follows: what is wrong, and how many bytes are given up with it.
     Bad(GameFault, usize),
     /// More bytes decide.
     More,
-    /// White space alone, and nothing follows.
+    /// Whitespace alone, and nothing follows.
     End,
 }
 
@@ -31,9 +31,9 @@ impl Next {
 }
 
 /// What is at the start of the bytes of a text that have come and aren't passed over yet; `is_last` says that nothing follows them. At [`Next::More`] the caller
-/// asks again with more bytes behind these, else it passes over as many as are named: so games and faults are those of the whole text, however it comes. The
-/// bytes are read from their first one on, so they had better come in large pieces; with more than 1,048,576 of them [`Next::More`] says that they are white
-/// space, or belong to a game that is given up as far as the next section of tags.
+/// asks again with more bytes after these, else it passes over as many as are named: so games and faults are those of the whole text, however it comes. The
+/// bytes are read from their first one on, so they had better come in large pieces; with more than 1,048,576 of them [`Next::More`] says that they are
+/// whitespace, or belong to a game that is given up as far as the next section of tags.
 ///
 /// ```
 /// use jatshegi::{next_game, Next};

@@ -71,7 +71,7 @@ pub struct Report {
     pub plies: u32,
     /// How the game ended, as its text says.
     pub marker: Marker,
-    /// How the last position is.
+    /// The status at the last position.
     pub status: Status,
     /// The side that has mated the other there.
     pub winner: Option<Color>,

@@ -97,7 +97,7 @@ impl Board {
         Ok((Move::of(m), value))
     }
 
-    /// The same, abandoned at the first position beyond so many, and within some milliseconds of a flag that is set.
+    /// The same, abandoned at the first position beyond `nodes`, and within some milliseconds of a flag that is set.
     ///
     /// # Errors
     ///
@@ -221,7 +221,7 @@ impl Engine {
         short(|text, room, count| unsafe { sys::jatshegi_engine_slice(at, text, room, count) })
     }
 
-    /// The clock reads so many milliseconds, from any moment on.
+    /// The clock reads this number of milliseconds, from any moment on.
     ///
     /// # Errors
     ///

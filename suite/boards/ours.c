@@ -17,7 +17,7 @@ static struct jatshegi_board board = JATSHEGI_NO_BOARD;
 static char answer[1 << 20], value[1 << 20];
 static size_t used;
 
-/* A call that isn't to be refused: what it hands out fits, and there is memory. */
+/* A call that isn't to be refused: what it writes fits, and there is memory. */
 static void done(uint32_t status) {
     if (status == JATSHEGI_OK) return;
     fprintf(stderr, "%s\n", jatshegi_status_text(status));

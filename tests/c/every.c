@@ -369,7 +369,7 @@ static void trees(struct jatshegi_board *b) {
     CHECK(fen_is(b, "rnbqkbnr/pppp1ppp/8/4p3/4P3/8/PPPP1PPP/RNBQKBNR w KQkq e6 0 2"));
 }
 
-/* How many leaves the tree of legal moves has so many plies below the position, by moves that are played and taken back. */
+/* How many leaves the tree of legal moves has `depth` plies below the position, by moves that are played and taken back. */
 static uint64_t perft(struct jatshegi_board *b, int depth) {
     struct jatshegi_move found[JATSHEGI_MOST_MOVES];
     uint64_t leaves = 0;
@@ -779,7 +779,7 @@ static void tags(struct jatshegi_board *b) {
     CHECK(jatshegi_board_new(&keys, b) == JATSHEGI_OK && game_is(b, SEVEN_TAGS "*\n\n"));
 }
 
-/* The text by which positions are told apart: a target counts where it can be captured on. */
+/* The text that shows which positions are the same: a target counts where it can be captured on. */
 static void identities(struct jatshegi_board *b) {
     static const struct {
         const char *fen, *epd;

@@ -1,7 +1,7 @@
 /*
  * Random calls of every function of jatshegi.h, with random and mutated arguments: fuzz [SEED [STEPS]]. The same seed makes the same calls.
  *
- * Each text that is read and each object that is written to lies directly before or behind a page that can't be touched, so that a byte outside ends the
+ * Each text that is read and each object that is written to lies directly before or after a page that can't be touched, so that a byte outside ends the
  * program by a signal, of which seed and step are said; the bytes beside it are compared. After each call all that the header doesn't let it write to is as
  * it was: outputs, texts, and what the boards answer, their games, cursors, searches and sessions. Allocations are refused now and then. Laws that need no
  * chess are asked: what is played is undone, what is written is read, a copy is equal. In 100,000 steps and more each function is done, and refused where it
@@ -405,7 +405,7 @@ static size_t compose(enum text kind) {
 #define NO_GAME BIT(JATSHEGI_NO_GAME)
 #define TAGS (BIT(JATSHEGI_TAG_NAME) | BIT(JATSHEGI_TAG_OWN) | BIT(JATSHEGI_TAG_VALUE))
 
-/* Which outputs there are: a room of units of so many bytes, its count, the bytes used; the sizes of up to three others. */
+/* Which outputs there are: a room of units of `size` bytes, its count, the bytes used; the sizes of up to three others. */
 #define UNITS(size) {size, true, false, {0}}
 #define GAMES {1, true, true, {0}}
 #define REPORTED {1, true, true, {sizeof(struct jatshegi_report)}}

@@ -7,7 +7,7 @@ struct memory {
     size_t size;
 };
 
-/* A block of so many bytes is taken; or, for 0, the one at that place among those held is given back. */
+/* A block of `size` bytes is taken; or, for 0, the one at the place `at` among those held is given back. */
 struct step {
     size_t size;
     size_t at;

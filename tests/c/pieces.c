@@ -150,7 +150,7 @@ static const char *const texts[] = {
     "$1000 1. e4 * 1. e4 *",
 };
 
-/* A game of more than 1,048,576 bytes and one after it; white space without an end; and a bad game whose end is far. */
+/* A game of more than 1,048,576 bytes and one after it; whitespace without an end; and a bad game whose end is far. */
 static void try_large(void) {
     static const size_t sizes[] = {65536, 262143, 1 << 22};
     const size_t room = 3 << 20;

@@ -141,7 +141,7 @@ static int is_right(int number, uint32_t status) {
         return status == JATSHEGI_PGN_MOVE && memcmp(&out, &wanted, sizeof out) == 0;
     }
     if (number >= FIRST_NEXT && number < LOADED) {
-        /* (a good game, a bad one, and white space) */
+        /* (a good game, a bad one, and whitespace) */
         if (status != JATSHEGI_OK && status != JATSHEGI_NO_GAME && status < JATSHEGI_PGN_TOKEN) return 0;
         wanted.passed = passes[number - FIRST_NEXT].passed;
         return memcmp(&out, &wanted, sizeof out) == 0;

@@ -1,5 +1,5 @@
 /*
- * Boards on several threads: each thread plays a game of its own, whose end the first thread finds again by itself, and all share boards that are handed from
+ * Boards on several threads: each thread plays a game of its own, whose end the first thread finds again by itself, and all share boards that are passed from
  * thread to thread under a lock. Ends with status 0 where each call answered as it has to. A number of rounds may be given.
  */
 #include <pthread.h>
@@ -44,7 +44,7 @@ static int play_some(struct jatshegi_board *board, unsigned *state) {
     return 1;
 }
 
-/* The position that a game of so many random moves ends in. */
+/* The position that a game of up to `rounds` random moves ends in. */
 static size_t game(unsigned seed, char *fen) {
     struct jatshegi_board board = JATSHEGI_NO_BOARD;
     size_t length = 0;

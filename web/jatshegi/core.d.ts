@@ -133,7 +133,7 @@ export declare class Game {
   readonly bytes: Uint8Array;
   /** Which game of the text it is, from 0, bad ones counted. */
   readonly index: number;
-  /** Where its bytes begin, white space before it among them, and how many they are. */
+  /** Where its bytes begin, whitespace before it among them, and how many they are. */
   readonly place: number;
   readonly length: number;
   pgn(): string;

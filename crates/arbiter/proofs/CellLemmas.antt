@@ -8,7 +8,7 @@ use Rattle.std.specs.Str.{IsUtf8, is_utf8}
 use Rattle.chess_items.specs.Faults.{name_of}
 use Rattle.chess_items.specs.declared.fault.PgnFault.{PgnFault}
 use Rattle.arbiter.specs.declared.cell.Cell as declared
-use Rattle.arbiter.specs.Cells.{Cell, Number, Text, as_utf8, cell_of, maybe}
+use Rattle.arbiter.specs.Cells.{Cell, Number, Text, as_utf8, maybe, name_and_value}
 use Rattle.arbiter.specs.Rows.{ending_cells}
 
 -- a text that is UTF-8 is left as it is
@@ -33,5 +33,5 @@ ending_is None = refl
 ending_is (Some fault) = refl
 
 -- the cells of a game, in two parts
-pub parts_are : (cells head rest : List declared.Cell) (x y : List Cell) → cells ≡ head ++ rest → map cell_of head ≡ x → map cell_of rest ≡ y → map cell_of cells ≡ x ++ y
-parts_are cells head rest x y is first more = ap (λ (cs : List declared.Cell). map cell_of cs) is ∙ map-append cell_of head rest ∙ ap (λ (cs : List Cell). cs ++ map cell_of rest) first ∙ ap (λ (cs : List Cell). x ++ cs) more
+pub parts_are : (cells head rest : List declared.Cell) (x y : List Cell) → cells ≡ head ++ rest → map name_and_value head ≡ x → map name_and_value rest ≡ y → map name_and_value cells ≡ x ++ y
+parts_are cells head rest x y is first more = ap (λ (cs : List declared.Cell). map name_and_value cs) is ∙ map-append name_and_value head rest ∙ ap (λ (cs : List Cell). cs ++ map name_and_value rest) first ∙ ap (λ (cs : List Cell). x ++ cs) more

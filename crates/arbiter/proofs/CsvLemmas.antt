@@ -2,7 +2,7 @@
 use Rattle.std.proofs.Common.{◌≡◌, ◌<◌, ℕ, Bool, true, false, if◌then◌else◌, ◌==◌, ◌-◌, List, [], ◌∷◌, ◌++◌, drop, flat_map, get_or, length, map, take, refl, sym, ap, ◌∙◌, append_assoc, arith}
 use Rattle.csv.specs.Writing.{escaped, field_text, fields_text, is_blank, quoted}
 use Rattle.arbiter.specs.declared.cell.Cell as declared
-use Rattle.arbiter.specs.Cells.{Cell, behind_comma, cell_of, csv_lines, csv_text, row_text, value_of}
+use Rattle.arbiter.specs.Cells.{Cell, behind_comma, csv_lines, csv_text, name_and_value, row_text, value_of}
 use Rattle.arbiter.specs.declared.row.Format.TheVariants.{Csv}
 
 -- a byte between quotation marks
@@ -43,11 +43,11 @@ row_is first next rest = ap (λ (t : List ℕ). (field_text csv_lines (csv_text 
 
 -- what is written of two cells or more
 pub written_is : (cells : List declared.Cell) (none : declared.Cell) (before first all : List ℕ) → 1 < length cells → before ≡ [] → first ≡ before ++ field_text csv_lines (csv_text (value_of (get_or cells 0 none).value))
-    → all ≡ first ++ flat_map behind_comma (map cell_of (take (length cells - 1) (drop 1 cells))) → all ++ 13 ∷ 10 ∷ [] ≡ row_text Csv (map cell_of cells)
+    → all ≡ first ++ flat_map behind_comma (map name_and_value (take (length cells - 1) (drop 1 cells))) → all ++ 13 ∷ 10 ∷ [] ≡ row_text Csv (map name_and_value cells)
 written_is [] none before first all more is_empty is_first is_all = absurd (omega (arith, more))
 written_is (a ∷ []) none before first all more is_empty is_first is_all = absurd (omega (arith, more))
 written_is (a ∷ b ∷ rest) none before first all more is_empty is_first is_all =
     ap (λ (t : List ℕ). t ++ 13 ∷ 10 ∷ [])
-    (is_all ∙ ap (λ (cells : List declared.Cell). first ++ flat_map behind_comma (map cell_of cells)) (take_all (b ∷ rest) (length (a ∷ b ∷ rest) - 1) (omega arith))
-    ∙ ap (λ (t : List ℕ). t ++ flat_map behind_comma (map cell_of (b ∷ rest))) (is_first ∙ ap (λ (t : List ℕ). t ++ field_text csv_lines (csv_text (value_of a.value))) is_empty))
-    ∙ sym (row_is (cell_of a) (cell_of b) (map cell_of rest))
+    (is_all ∙ ap (λ (cells : List declared.Cell). first ++ flat_map behind_comma (map name_and_value cells)) (take_all (b ∷ rest) (length (a ∷ b ∷ rest) - 1) (omega arith))
+    ∙ ap (λ (t : List ℕ). t ++ flat_map behind_comma (map name_and_value (b ∷ rest))) (is_first ∙ ap (λ (t : List ℕ). t ++ field_text csv_lines (csv_text (value_of a.value))) is_empty))
+    ∙ sym (row_is (name_and_value a) (name_and_value b) (map name_and_value rest))

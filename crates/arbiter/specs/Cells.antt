@@ -109,5 +109,5 @@ abbrev pub behind_comma : Cell → List ℕ
 behind_comma cell = byte "," ∷ csv.field_text csv_lines (csv_text cell.1)
 
 -- what a cell is
-abbrev pub cell_of : declared.Cell → Cell
-cell_of cell = (cell.name.now, value_of cell.value)
+abbrev pub name_and_value : declared.Cell → Cell
+name_and_value cell = (cell.name.now, value_of cell.value)

@@ -14,7 +14,7 @@
 --   Roster            what tags say of who played, where and when; roster_in, those of a game; IsRosterOf, those of a text
 --   game_cells        the row of a game, or of the game that one which can't be read is repaired to
 --   fault_cells       the row of one that can't be read, and isn't repaired
---   names             the names of the columns
+--   column_names      the names of the columns
 use Rattle.std.specs.Prelude.{ℕ, zero, suc, nat_eq, nat_lt, Bool, false, not, ◌||◌, ◌&&◌, bytes_eq, if◌then◌else◌, is_some, List, [], ◌∷◌, ◌++◌, length, codes, Option, Some, None, option_map}
 use Rattle.chess_types.specs.declared.board.man.Colour.{Colour}
 use Rattle.chess_types.specs.declared.board.man.Colour.TheVariants.{White, Black}
@@ -54,7 +54,7 @@ early (Some ply) plies = if nat_lt ply plies then Some ply else None
 abbrev pub over_early : Line → Option ℕ
 over_early line = early (first_over line) (length line.moves)
 
--- how it stood there
+-- its status there
 abbrev pub why_early : Line → Option Status
 why_early line = option_map (λ ply. status (as_far ply line)) (over_early line)
 
@@ -247,5 +247,5 @@ abbrev pub fault_cells : ℕ → ℕ → Roster → Heading → PgnFault → Lis
 fault_cells number offset roster heading fault = place_cells number offset ++ (roster_cells roster ++ (lost_cells heading.result ++ ending_cells (Some fault)))
 
 -- the names of the columns
-abbrev pub names : List (List ℕ)
-names = codes "number" ∷ codes "offset" ∷ (roster_names ++ (early_names ++ (codes "result_tag" ∷ (late_names ++ fault_names))))
+abbrev pub column_names : List (List ℕ)
+column_names = codes "number" ∷ codes "offset" ∷ (roster_names ++ (early_names ++ (codes "result_tag" ∷ (late_names ++ fault_names))))

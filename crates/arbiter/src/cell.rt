@@ -1,7 +1,7 @@
 //! What a row of a report has in a column: a number, a text, a truth, or nothing.
 
 ghost use Rattle.std.specs.Prelude.{◌≡◌, option_map};
-ghost use Rattle.arbiter.specs.Cells.{Number, Text, Truth, Nothing, cell_of, maybe};
+ghost use Rattle.arbiter.specs.Cells.{Number, Text, Truth, Nothing, maybe, name_and_value};
 
 /// What a row has in a column.
 #[derive(Clone, Copy)]
@@ -24,7 +24,7 @@ pub struct Cell<'v> {
 
 /// A number.
 pub fn number<'v>(name: &'static str, value: u64) -> Cell<'v>
-    ensures { cell_of result ≡ (name.now, Number value) }
+    ensures { name_and_value result ≡ (name.now, Number value) }
 {
     Cell {
         name,
@@ -34,7 +34,7 @@ pub fn number<'v>(name: &'static str, value: u64) -> Cell<'v>
 
 /// A number, if it is there.
 pub fn any_number<'v>(name: &'static str, value: Option<u32>) -> Cell<'v>
-    ensures { cell_of result ≡ (name.now, maybe Number value) }
+    ensures { name_and_value result ≡ (name.now, maybe Number value) }
 {
     match value {
         Some(value) => number(name, value as u64),
@@ -44,7 +44,7 @@ pub fn any_number<'v>(name: &'static str, value: Option<u32>) -> Cell<'v>
 
 /// A text that is UTF-8.
 pub fn word<'v>(name: &'static str, value: &'v str) -> Cell<'v>
-    ensures { cell_of result ≡ (name.now, Text value.now) }
+    ensures { name_and_value result ≡ (name.now, Text value.now) }
 {
     Cell {
         name,
@@ -54,7 +54,7 @@ pub fn word<'v>(name: &'static str, value: &'v str) -> Cell<'v>
 
 /// A text that is UTF-8, if it is there.
 pub fn any_word<'v>(name: &'static str, value: Option<&'static str>) -> Cell<'v>
-    ensures { cell_of result ≡ (name.now, maybe Text (option_map (λ v. v.now) value.entry)) }
+    ensures { name_and_value result ≡ (name.now, maybe Text (option_map (λ v. v.now) value.entry)) }
 {
     match value {
         Some(value) => word(name, value),
@@ -64,7 +64,7 @@ pub fn any_word<'v>(name: &'static str, value: Option<&'static str>) -> Cell<'v>
 
 /// A text of any bytes.
 pub fn text<'v>(name: &'static str, value: &'v [u8]) -> Cell<'v>
-    ensures { cell_of result ≡ (name.now, Text value.now) }
+    ensures { name_and_value result ≡ (name.now, Text value.now) }
 {
     Cell {
         name,
@@ -74,7 +74,7 @@ pub fn text<'v>(name: &'static str, value: &'v [u8]) -> Cell<'v>
 
 /// A text of any bytes, if it is there.
 pub fn any_text<'v>(name: &'static str, value: Option<&'v [u8]>) -> Cell<'v>
-    ensures { cell_of result ≡ (name.now, maybe Text (option_map (λ v. v.now) value.entry)) }
+    ensures { name_and_value result ≡ (name.now, maybe Text (option_map (λ v. v.now) value.entry)) }
 {
     match value {
         Some(value) => text(name, value),
@@ -84,7 +84,7 @@ pub fn any_text<'v>(name: &'static str, value: Option<&'v [u8]>) -> Cell<'v>
 
 /// `true` or `false`.
 pub fn truth<'v>(name: &'static str, value: bool) -> Cell<'v>
-    ensures { cell_of result ≡ (name.now, Truth value) }
+    ensures { name_and_value result ≡ (name.now, Truth value) }
 {
     Cell {
         name,
@@ -94,7 +94,7 @@ pub fn truth<'v>(name: &'static str, value: bool) -> Cell<'v>
 
 /// `true` or `false`, if it is known.
 pub fn any_truth<'v>(name: &'static str, value: Option<bool>) -> Cell<'v>
-    ensures { cell_of result ≡ (name.now, maybe Truth value) }
+    ensures { name_and_value result ≡ (name.now, maybe Truth value) }
 {
     match value {
         Some(value) => truth(name, value),
@@ -104,7 +104,7 @@ pub fn any_truth<'v>(name: &'static str, value: Option<bool>) -> Cell<'v>
 
 /// A value that isn't there.
 pub fn nothing<'v>(name: &'static str) -> Cell<'v>
-    ensures { cell_of result ≡ (name.now, Nothing) }
+    ensures { name_and_value result ≡ (name.now, Nothing) }
 {
     Cell {
         name,

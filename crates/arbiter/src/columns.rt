@@ -5,7 +5,7 @@ ghost use Rattle.chess_types.specs.board.Outcome.{status_text};
 ghost use Rattle.chess_fen.specs.Writing.{written};
 ghost use Rattle.chess_items.specs.Faults.{name_of};
 ghost use Rattle.chess_pgn.specs.steps.GameCode.{tags_of};
-ghost use Rattle.arbiter.specs.Cells.{cell_of, maybe, row_text, Number, Text};
+ghost use Rattle.arbiter.specs.Cells.{maybe, name_and_value, row_text, Number, Text};
 ghost use Rattle.arbiter.specs.Rows.{colour_text, ending_cells, fault_cells, lost_cells, place_cells, roster_cells, roster_in, start_text};
 ghost use Rattle.arbiter.specs.steps.Reports.{move_by, report_cells};
 ghost use Rattle.arbiter.specs.steps.Rosters.{read_roster};
@@ -71,7 +71,7 @@ fn over_why(over: Option<Over>) -> Option<&'static str>
 
 // The number of the move that leads to a ply; of a ply that is none, or has no move before it, nothing.
 fn move_leading_to<'v>(name: &'static str, start: &Position, ply: Option<u32>) -> Cell<'v>
-    ensures { cell_of result ≡ (name.now, maybe Number (move_by start.now ply)) }
+    ensures { name_and_value result ≡ (name.now, maybe Number (move_by start.now ply)) }
 {
     let first = start.setup().number as u64;
     let black = match start.setup().side {
@@ -86,7 +86,7 @@ fn move_leading_to<'v>(name: &'static str, start: &Position, ply: Option<u32>) -
 
 // The FEN of a game's start, where it is another than the usual one.
 fn start_fen<'v>(fen: &'v str) -> Cell<'v>
-    ensures { cell_of result ≡ (codes "start_fen", maybe Text (start_text fen.now)) }
+    ensures { name_and_value result ≡ (codes "start_fen", maybe Text (start_text fen.now)) }
 {
     if is(fen.as_bytes(), USUAL.as_bytes()) {
         nothing("start_fen")
@@ -107,7 +107,7 @@ pub struct Said<'v> {
 
 // Where the fault of a game is.
 fn fault_place<'v>(fault: Option<PgnFault>) -> Cell<'v>
-    ensures { cell_of result ≡ (codes "fault_place", maybe Number (option_map (λ f. f.place) fault)) }
+    ensures { name_and_value result ≡ (codes "fault_place", maybe Number (option_map (λ f. f.place) fault)) }
 {
     match fault {
         Some(fault) => number("fault_place", fault.place),
@@ -117,7 +117,7 @@ fn fault_place<'v>(fault: Option<PgnFault>) -> Cell<'v>
 
 // What kind of fault it is.
 fn fault_kind<'v>(fault: Option<PgnFault>) -> Cell<'v>
-    ensures { cell_of result ≡ (codes "fault", maybe Text (option_map (λ f. name_of f.kind) fault)) }
+    ensures { name_and_value result ≡ (codes "fault", maybe Text (option_map (λ f. name_of f.kind) fault)) }
 {
     match fault {
         Some(fault) => word("fault", fault.kind.name()),
@@ -127,7 +127,7 @@ fn fault_kind<'v>(fault: Option<PgnFault>) -> Cell<'v>
 
 // The cells of a game's place and its tags.
 fn roster_cells<'v>(place: Place, roster: Roster<'v>) -> [Cell<'v>; 12]
-    ensures { map cell_of result ≡ place_cells place.number place.offset ++ roster_cells (read_roster roster.entry) }
+    ensures { map name_and_value result ≡ place_cells place.number place.offset ++ roster_cells (read_roster roster.entry) }
 {
     [
         number("number", place.number),
@@ -153,7 +153,7 @@ fn line_cells<'v>(
     first: &'v str,
     fen: &'v str,
 ) -> [Cell<'v>; 24]
-    ensures { map cell_of result ≡ report_cells report.now start.now first.now fen.now said.entry.heading.now said.entry.is_unmarked ++ ending_cells said.entry.fault }
+    ensures { map name_and_value result ≡ report_cells report.now start.now first.now fen.now said.entry.heading.now said.entry.is_unmarked ++ ending_cells said.entry.fault }
 {
     let over = report.played_on();
     [
@@ -208,7 +208,7 @@ pub fn game_row<A: Allocator>(
 
 // What is said of a game that can't be read, and isn't repaired, beside its tags.
 fn lost_cells<'v>(result_tag: Option<&'v [u8]>, fault: PgnFault) -> [Cell<'v>; 24]
-    ensures { map cell_of result ≡ lost_cells (option_map (λ v. v.now) result_tag.entry) ++ ending_cells (Some fault) }
+    ensures { map name_and_value result ≡ lost_cells (option_map (λ v. v.now) result_tag.entry) ++ ending_cells (Some fault) }
 {
     [
         nothing("start_fen"),

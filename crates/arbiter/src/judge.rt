@@ -63,7 +63,7 @@ struct RowMaker {
     asked: Asked,
 }
 
-// A fault with its place after so many bytes.
+// A fault with its place `offset` bytes further on.
 fn placed(fault: PgnFault, offset: u64) -> PgnFault
     ensures kind { result.kind ≡ fault.kind }
     ensures place { offset ≤ result.place }

@@ -5,7 +5,7 @@ ghost use Rattle.std.specs.Char.{encode_utf8};
 ghost use Rattle.csv.specs.Writing as csv;
 ghost use Rattle.json.specs.Token.{string};
 ghost use Rattle.json.specs.Print.{print};
-ghost use Rattle.arbiter.specs.Cells.{as_text, as_utf8, begins_formula, behind_comma, cell_of, csv_lines, csv_text, is_formula, json_value, member, object, row_text, value_of};
+ghost use Rattle.arbiter.specs.Cells.{as_text, as_utf8, begins_formula, behind_comma, csv_lines, csv_text, is_formula, json_value, member, name_and_value, object, row_text, value_of};
 ghost use Rattle.arbiter.specs.declared.row.Format.TheVariants.{Csv, Jsonl};
 
 use crate::cell::{Cell, Value};
@@ -133,7 +133,7 @@ fn put_csv(alloc: Global, row: &mut Vec<u8>, value: Value<'_>) -> Result<(), All
 
 // Adds the fields after the first.
 fn put_others(alloc: Global, row: &mut Vec<u8>, cells: &[Cell<'_>]) -> Result<(), AllocError>
-    ensures { OnOk result (row.new.items ≡ row.old.items ++ flat_map behind_comma (map cell_of cells.now)) }
+    ensures { OnOk result (row.new.items ≡ row.old.items ++ flat_map behind_comma (map name_and_value cells.now)) }
 {
     for cell in cells {
         row.push(b',')?;
@@ -145,7 +145,7 @@ fn put_others(alloc: Global, row: &mut Vec<u8>, cells: &[Cell<'_>]) -> Result<()
 // A row as comma-separated values.
 fn csv_row(alloc: Global, cells: &[Cell<'_>]) -> Result<Vec<u8>, AllocError>
     requires { 1 < length cells.now }
-    ensures { IfOk result (λ row. row.items ≡ row_text Csv (map cell_of cells.now)) }
+    ensures { IfOk result (λ row. row.items ≡ row_text Csv (map name_and_value cells.now)) }
 {
     let mut row = Vec::with_capacity(alloc, 512)?;
     put_csv(alloc, &mut row, cells[0].value)?;
@@ -181,7 +181,7 @@ fn put_value(alloc: Global, writer: &mut Writer, value: Value<'_>) -> Result<(),
 
 // A value after its name.
 fn put_member(alloc: Global, writer: &mut Writer, cell: Cell<'_>) -> Result<(), AllocError>
-    ensures tokens { OnOk result (writer.new.tokens ≡ writer.old.tokens ++ member (cell_of cell.entry)) }
+    ensures tokens { OnOk result (writer.new.tokens ≡ writer.old.tokens ++ member (name_and_value cell.entry)) }
     ensures before { OnOk result (writer.new.before ≡ writer.old.before) }
 {
     writer.key(cell.name)?;
@@ -190,7 +190,7 @@ fn put_member(alloc: Global, writer: &mut Writer, cell: Cell<'_>) -> Result<(), 
 
 // A JSON object.
 fn json_object(alloc: Global, cells: &[Cell<'_>]) -> Result<Vec<u8>, AllocError>
-    ensures { IfOk result (λ row. row.items ≡ print (object (map cell_of cells.now))) }
+    ensures { IfOk result (λ row. row.items ≡ print (object (map name_and_value cells.now))) }
 {
     let mut writer = Writer::new(Vec::new(alloc));
     writer.begin_object()?;
@@ -203,7 +203,7 @@ fn json_object(alloc: Global, cells: &[Cell<'_>]) -> Result<Vec<u8>, AllocError>
 
 // A line of JSON.
 fn json_line(alloc: Global, cells: &[Cell<'_>]) -> Result<Vec<u8>, AllocError>
-    ensures { IfOk result (λ row. row.items ≡ row_text Jsonl (map cell_of cells.now)) }
+    ensures { IfOk result (λ row. row.items ≡ row_text Jsonl (map name_and_value cells.now)) }
 {
     let mut line = json_object(alloc, cells)?;
     line.push(b'\n')?;
@@ -213,7 +213,7 @@ fn json_line(alloc: Global, cells: &[Cell<'_>]) -> Result<Vec<u8>, AllocError>
 /// The bytes of a row of these cells.
 pub fn row_bytes(alloc: Global, format: Format, cells: &[Cell<'_>]) -> Result<Vec<u8>, AllocError>
     requires { 1 < length cells.now }
-    ensures { IfOk result (λ row. row.items ≡ row_text format (map cell_of cells.now)) }
+    ensures { IfOk result (λ row. row.items ≡ row_text format (map name_and_value cells.now)) }
 {
     match format {
         Format::Csv => csv_row(alloc, cells),

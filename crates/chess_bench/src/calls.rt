@@ -57,7 +57,7 @@ impl Calls {
         self.sum = self.sum.saturating_add(returned as u64);
     }
 
-    // The call so many times with that move, where the move is legal.
+    // The call `rounds` times with that move, where the move is legal.
     #[tactic(auto, using(chess_types::proofs::MoveLemmas::legal_pseudo))]
     fn with_move(&mut self, live: &mut Live, call: Call, m: Move, rounds: u32)
         requires clock { live.old.position.clock < 1000000 }
@@ -98,7 +98,7 @@ impl Calls {
         }
     }
 
-    /// The call so many times with each legal move of the position.
+    /// The call `rounds` times with each legal move of the position.
     pub fn with_moves(&mut self, live: &mut Live, call: Call, rounds: u32)
         requires clock { live.old.position.clock < 1000000 }
         requires number { live.old.position.number < 1000000 }
@@ -130,7 +130,7 @@ impl Calls {
         }
     }
 
-    /// The call so many times, where it is one that lists or counts the moves of the position.
+    /// The call `rounds` times, where it is one that lists or counts the moves of the position.
     pub fn with_position(&mut self, live: &mut Live, call: Call, rounds: u32)
         requires clock { live.old.position.clock < 1000000 }
         requires number { live.old.position.number < 1000000 }
@@ -156,7 +156,7 @@ impl Calls {
         }
     }
 
-    /// The call so many times, where it is one that reads or writes a FEN.
+    /// The call `rounds` times, where it is one that reads or writes a FEN.
     pub fn with_fen(&mut self, position: &Position, fen: &str, call: Call, rounds: u32) {
         match call {
             Call::WriteFen => self.write_fen(position, rounds),

@@ -104,7 +104,7 @@ impl Exercise {
         Some(self.counts.ticks())
     }
 
-    /// The evaluation of the board as it stands.
+    /// The evaluation of the board as it is.
     pub fn white(&self) -> i32 {
         self.sum.white()
     }

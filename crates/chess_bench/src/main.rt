@@ -61,7 +61,7 @@ const SEARCHED: usize = 3;
 
 const DEPTH: u8 = 5;
 
-/// So many a second.
+/// The number a second, where `number` take `micros` microseconds.
 fn rate(number: u64, micros: u128) -> u64 {
     let micros = u64::try_from(micros).unwrap_or(u64::MAX);
     number
@@ -89,7 +89,7 @@ fn exchange(rt: &HostRuntime) -> io::Result<()> {
     eprintln!(rt; "{rate} a second")
 }
 
-/// The best move of a position, so many plies deep, and how many positions were asked for.
+/// The best move of a position, `depth` plies deep, and how many positions were asked for.
 fn search(rt: &HostRuntime, fen: &str, depth: u8) -> io::Result<()>
     requires deep { 1 ≤ depth }
     requires shallow { depth ≤ 16 }
@@ -137,7 +137,7 @@ fn search_each(rt: &HostRuntime, depth: u8, which: Option<u8>) -> io::Result<()>
     Ok(())
 }
 
-/// The call of that name, so many times.
+/// The call of that name, `ROUNDS` times for each position or move.
 fn measure(rt: &HostRuntime, word: &str) -> io::Result<()> {
     let Some(call) = Call::named(word) else {
         return println!(rt; "no call: {word}");

@@ -9,7 +9,7 @@ use chess_search::{Nodes, best_counted};
 use chess_types::Move;
 use std::alloc::Allocator;
 
-/// The best of all legal moves, so many plies deep, and how many positions were asked for.
+/// The best of all legal moves, `depth` plies deep, and how many positions were asked for.
 #[tactic(auto, using(chess_search::proofs::RootLemmas::roots_legal))]
 pub fn best_of_all<A: Allocator>(
     line: &mut Line<'_, A>,

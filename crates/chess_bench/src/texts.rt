@@ -54,7 +54,7 @@ impl Texts {
         }
     }
 
-    /// All of them, so many times.
+    /// All of them, `rounds` times.
     pub fn exchange_rounds(&mut self, live: &mut Live, rounds: u32)
         requires clock { live.old.position.clock < 1000000 }
         requires number { live.old.position.number < 1000000 }

@@ -9,8 +9,7 @@ use Rattle.chess_items.specs.Coming.{AtHand, Breaks, BreaksWhere, Came, EachBrin
 use Rattle.chess_items.specs.declared.fault.PgnFault.{PgnFault}
 use Rattle.chess_pgn.specs.Games.{Game}
 use Rattle.chess_pgn.specs.Reading.{BeginsWithGame, HasNoGame, HasNoGameYet, IsWhite}
-use Rattle.chess_pgn.specs.Sources as sources
-use Rattle.chess_pgn.specs.Sources.{EndsOpen, Fails, Games, GivesUpInPart, GoesOn, HasFault, HasGame, HasNone, IsSound, Leaves, NextGame, ReadFails, ReadsNext, used_after, used_of}
+use Rattle.chess_pgn.specs.Sources.{Fails, Games, HasFault, HasGame, HasNone, IsGivenUp, IsGivenUpInPart, IsSound, Leaves, MayGoOn, NextGame, ReadsNext, used_after, used_of}
 use Rattle.chess_pgn.specs.declared.game.Game as code
 use Rattle.chess_pgn.specs.declared.games.GamesFault.{GamesFault}
 use Rattle.chess_pgn.specs.declared.games.GamesFault.TheVariants.{Pgn, Read}
@@ -127,7 +126,7 @@ fresh text is_last source games begins from nothing reads none used = record { b
 
 -- where no fault is kept, the source has ended where its end was seen, and the bytes that were used are those of its text
 ended_well : (games : Games Coming) → games.fault ≡ None → IsSound (λ s. HasEnded s) games → games.text.has_ended ≡ true → HasEnded games.text.source
-ended_well games none sound = sound.ended_so (subst GoesOn (sym none) tt)
+ended_well games none sound = sound.ended_so (subst MayGoOn (sym none) tt)
 
 used_well : (games : Games Coming) (used : ℕ) → games.fault ≡ None → used ≡ used_of games → used ≡ games.text.used
 used_well games used none e = e ∙ ap (λ (f : Option GamesFault). used_after f games.text.used) none
@@ -161,13 +160,13 @@ wants_next text is_last old new result used fresh reads is =
 
 -- of a bad game, where its reading stopped
 stopped : {A : Type 0} (old new : Games Coming) (result : Result (Option (code.Game A)) GamesFault) (fault : PgnFault) → old.fault ≡ None → Reads old new result → result ≡ Err (Pgn fault)
-    → GoesOn (Some (Pgn fault)) → (new.fault ≡ Some (Pgn fault)) × Leaves (λ s b t. GivesSome s b t) failed old.text new.text new.halt
+    → MayGoOn (Some (Pgn fault)) → (new.fault ≡ Some (Pgn fault)) × Leaves (λ s b t. GivesSome s b t) failed old.text new.text new.halt
 stopped {A} old new result fault none reads is goes_on = (
   subst (λ (r : Result (Option (code.Game A)) GamesFault). IfErr r (λ f. new.fault ≡ Some f)) is reads.sticky,
-  subst (λ (r : Result (Option (code.Game A)) GamesFault). IfErr r (λ f. GoesOn (Some f) → Leaves (λ s b t. GivesSome s b t) failed old.text new.text new.halt)) is (reads.leaves none) goes_on,
+  subst (λ (r : Result (Option (code.Game A)) GamesFault). IfErr r (λ f. MayGoOn (Some f) → Leaves (λ s b t. GivesSome s b t) failed old.text new.text new.halt)) is (reads.leaves none) goes_on,
 )
 
-goes_past : (fault : PgnFault) → is_of_text fault.kind ≡ true → GoesOn (Some (Pgn fault))
+goes_past : (fault : PgnFault) → is_of_text fault.kind ≡ true → MayGoOn (Some (Pgn fault))
 goes_past fault of_text memory = true≢false (sym of_text ∙ ap is_of_text memory)
 
 fails_next : (fault : PgnFault) (old mid : Games Coming) → is_of_text fault.kind ≡ true → HasFault (λ s b t. GivesSome s b t) failed (λ s. HasEnded s) old.text mid.text (Pgn fault)
@@ -177,11 +176,11 @@ fails_next fault old mid of_text (inr fails) = fails.1
 
 pub bad_next : {A : Type 0} (text : List ℕ) (is_last : Bool) (old mid new : Games Coming) (result : Result (Option (code.Game A)) GamesFault) (fault : PgnFault) (passed : Result ℕ GamesFault) (n code used used' : ℕ)
     → Fresh text is_last old → Reads old mid result → result ≡ Err (Pgn fault) → is_of_text fault.kind ≡ true → passed ≡ Ok n
-    → ((f : GamesFault) (before : AtHand Coming) → mid.fault ≡ Some f → Leaves (λ s b t. GivesSome s b t) failed before mid.text mid.halt → IfOk passed (λ _. sources.GivesUp (λ s b t. GivesSome s b t) failed before new.text))
+    → ((f : GamesFault) (before : AtHand Coming) → mid.fault ≡ Some f → Leaves (λ s b t. GivesSome s b t) failed before mid.text mid.halt → IfOk passed (λ _. IsGivenUp (λ s b t. GivesSome s b t) failed before new.text))
     → IfOk passed (λ _. new.fault ≡ None) → IsSound (λ s. HasEnded s) new → code ≡ fault_code fault.kind → used' ≡ used_of new → IsNoNext text is_last code used used'
 bad_next text is_last old mid new result fault passed n code used used' fresh reads is of_text ok gives good sound ec eu =
     let at = stopped old mid result fault fresh.no_fault reads is (goes_past fault of_text) in
-    let given = subst (λ (r : Result ℕ GamesFault). IfOk r (λ _. sources.GivesUp (λ s b t. GivesSome s b t) failed old.text new.text)) ok (gives (Pgn fault) old.text at.0 at.1) in
+    let given = subst (λ (r : Result ℕ GamesFault). IfOk r (λ _. IsGivenUp (λ s b t. GivesSome s b t) failed old.text new.text)) ok (gives (Pgn fault) old.text at.0 at.1) in
     let none = subst (λ (r : Result ℕ GamesFault). IfOk r (λ _. new.fault ≡ None)) ok good in
     let fails = fails_next fault old mid of_text (fault_next old mid result (Pgn fault) fresh.no_fault reads is) in
     let bad = bad_anyhow text is_last old.text mid.text new.text given.0 fresh.begins fails given.1 (ended_well new none sound) in
@@ -189,13 +188,13 @@ bad_next text is_last old mid new result fault passed n code used used' fresh re
 
 pub wants_pass : {A : Type 0} (text : List ℕ) (is_last : Bool) (old mid new : Games Coming) (result : Result (Option (code.Game A)) GamesFault) (fault : PgnFault) (passed : Result ℕ GamesFault) (used : ℕ)
     → Fresh text is_last old → Reads old mid result → result ≡ Err (Pgn fault) → is_of_text fault.kind ≡ true → passed ≡ Err Read
-    → ((f : GamesFault) (before : AtHand Coming) → mid.fault ≡ Some f → GoesOn (Some f) → Leaves (λ s b t. GivesSome s b t) failed before mid.text mid.halt
-    → IfErr passed (λ fault. GivesUpInPart (λ s b t. GivesSome s b t) failed before new.text fault))
+    → ((f : GamesFault) (before : AtHand Coming) → mid.fault ≡ Some f → MayGoOn (Some f) → Leaves (λ s b t. GivesSome s b t) failed before mid.text mid.halt
+    → IfErr passed (λ fault. IsGivenUpInPart (λ s b t. GivesSome s b t) failed before new.text fault))
     → IsNoNext text is_last 14 used used
 wants_pass text is_last old mid new result fault passed used fresh reads is of_text err part =
     let goes_on = goes_past fault of_text in
     let at = stopped old mid result fault fresh.no_fault reads is goes_on in
-    let broke = subst (λ (r : Result ℕ GamesFault). IfErr r (λ f. GivesUpInPart (λ s b t. GivesSome s b t) failed old.text new.text f)) err (part (Pgn fault) old.text at.0 goes_on at.1) in
+    let broke = subst (λ (r : Result ℕ GamesFault). IfErr r (λ f. IsGivenUpInPart (λ s b t. GivesSome s b t) failed old.text new.text f)) err (part (Pgn fault) old.text at.0 goes_on at.1) in
     inr (inr (inl (refl, refl, undecided text is_last GoesFurther old.text new.text fresh.begins broke (inr broke.none))))
 
 abbrev pub code_of : {G : Type 0} → Result G ℕ → ℕ

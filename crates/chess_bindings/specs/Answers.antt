@@ -1,7 +1,7 @@
 -- What a board answers, and what an engine replies.
---   IsLineAnswered   of a line: the board may answer it with a text, and go from the one board to the other; the text is handed out. Or there was no memory, and
+--   IsLineAnswered   of a line: the board may answer it with a text, and go from the one board to the other; the text is written. Or there was no memory, and
 --                    all is as before
---   IsReplied        of an event: the engine may reply so, and go from the one state to the other; the replies are handed out, each on a line of its own
+--   IsReplied        of an event: the engine may reply so, and go from the one state to the other; the replies are written, each on a line of its own
 use Rattle.std.specs.Prelude.{◌≡◌, ◌⊎◌, ℕ, List}
 use Rattle.chess_tree.specs.GameTree.{TreeParts}
 use Rattle.chess_uci.specs.declared.event.Event.{Event}

@@ -1,13 +1,13 @@
 -- What the statuses of calls are, as numbers, and how small values are seen.
 --   ok, empty_slot, no_memory, not_legal, argument, no_room, none_best, no_such, wants_more, no_game, was_abandoned, bad_name, own_tag, bad_value   statuses of their own
 --   fault_code      the status of a text at whose start no game is
---   outcome_code    how a game stands
+--   outcome_code    a game's status, as a number
 use Rattle.std.specs.Prelude.{ℕ, ◌+◌}
 use Rattle.chess_types.specs.declared.board.outcome.Status.{Status}
 use Rattle.chess_types.specs.declared.board.outcome.Status.TheVariants.{Mate, Stalemate, Dead, Fivefold, Seventyfive, Play}
 use Rattle.chess_items.specs.declared.fault.FaultKind.{FaultKind}
 use Rattle.chess_items.specs.declared.fault.FaultKind.TheVariants.{Memory}
-use Rattle.chess_items.specs.Faults.{number_of}
+use Rattle.chess_items.specs.Faults.{fault_number}
 
 -- it is done
 abbrev pub ok : ℕ
@@ -68,7 +68,7 @@ bad_value = 20
 -- 40 and the number of the fault; want of memory is no fault of the text
 abbrev pub fault_code : FaultKind → ℕ
 fault_code Memory = no_memory
-fault_code fault = 40 + number_of fault
+fault_code fault = 40 + fault_number fault
 
 -- the number of a status
 abbrev pub outcome_code : Status → ℕ

@@ -3,7 +3,7 @@
 --   IsBad         no game is at the start of the text, and it isn't white alone
 --   IsFaulty      of a bad game: the status of a fault of the text, with a place in it, at its end at most; which fault, and which place, has no definition
 --   IsNone        only whitespace follows; or a bad game; or there is no memory. But for a bad game's place the number is as it was
---   IsGameHanded  of a text: the game at its start is handed out in export form, with the number of the bytes that it takes; or there is none
+--   IsGameHanded  of a text: the game at its start is written in export form, with the number of the bytes that it takes; or there is none
 --   IsPassed      of a text: the bytes of the game at its start; or all, which are white; or those that are given up with a bad game (`GivesUp` of
 --                chess_items); or there is no memory
 use Rattle.std.specs.Prelude.{◌≡◌, ◌⊎◌, ◌≤◌, ℕ, Bool, true, false, List, length}
@@ -29,12 +29,12 @@ IsBad text = HasNoGame text × (IsWhite text → ⊥)
 abbrev pub IsFaulty : List ℕ → (code used' : ℕ) → Type 0
 IsFaulty text code used' = IsBad text × (kind : FaultKind) × (is_of_text kind ≡ true) × (code ≡ fault_code kind) × (used' ≤ length text)
 
--- why no game is handed out
+-- why no game is written
 abbrev pub IsNone : List ℕ → (code used used' : ℕ) → Type 0
 IsNone text code used used' =
     ((code ≡ no_game) × (used' ≡ used) × IsWhite text) ⊎ IsFaulty text code used' ⊎ ((code ≡ no_memory) × (used' ≡ used))
 
--- the game at the start of the text is handed out
+-- the game at the start of the text is written
 abbrev pub IsFound : List ℕ → (code count' used' : ℕ) → (room room' : List ℕ) → Type 0
 IsFound text code count' used' room room' = (game : Game) × BeginsWithGame text game used' × IsHanded (game_text game) code count' room room'
 

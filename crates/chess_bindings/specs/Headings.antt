@@ -4,7 +4,7 @@
 --   tag_names        the names of the tags: of the six that each game has besides Result, then of the others in ASCII order (PGN 8.1.1, 3.2)
 --   outcome_in       how a game ended, by its number
 --   tag_code         the status of a tag that is set, or refused
---   HandedIfThere    a text is handed out, or there is none
+--   HandedIfThere    a text is written, or there is none
 --   IsTagSet         the tag of a name has a value, all else is as it was; or why it hasn't, and all is as it was
 --   IsTagCleared     the same of a tag taken out; one of the six then says that nothing is known
 --   IsOutcomeSet     how the game ended is set by its number, or that is none

@@ -6,7 +6,7 @@
 --   why_of         why a game is over, or that it goes on
 --   why_code       why a line was over at a ply, as a status
 --   report_code    the report of a game
---   IsReport       of a text: the report of the game at its start and the FEN of its last position are handed out, with the number of the bytes that the
+--   IsReport       of a text: the report of the game at its start and the FEN of its last position are written, with the number of the bytes that the
 --                  game takes; or there is none
 use Rattle.std.specs.Prelude.{◌≡◌, ◌⊎◌, ℕ, List, length, Option, Some, None}
 use Rattle.chess_types.specs.declared.board.man.Colour.{Colour}

@@ -4,8 +4,8 @@
 --   cut_report      the same of a line that was cut off, without its place, which no definition says; unplaced, any without it
 --   ListsAll       the repairs of a text, and then what was cut off
 --   IsListed        values that are put first in a room, as many as it has places for, and how many they are
---   IsSaved         a bad game: some first bytes of the text are salvaged (`IsSalvaged` of chess_salvage) to a game that is handed out, the repairs with it
---   IsLost          no game is handed out: only whitespace follows, or the end of a file (`ComesLast` of chess_salvage); or a bad game, which is no such end, with
+--   IsSaved         a bad game: some first bytes of the text are salvaged (`IsSalvaged` of chess_salvage) to a game that is written, the repairs with it
+--   IsLost          no game is written: only whitespace follows, or the end of a file (`ComesLast` of chess_salvage); or a bad game, which is no such end, with
 --                   the bytes that are given up with it; or there is no memory
 --   AreAsBefore     nothing but the number of those bytes is written
 --   IsReadOrSaved   what is answered of the game at the start of a text
@@ -94,7 +94,7 @@ pub record IsSaved (text : List ℕ) (code count' used' listed' : ℕ) (room roo
   pub named : ListsAll repairs cuts all
   pub listed : IsListed all listed' reports reports'
 
--- no game is handed out
+-- no game is written
 abbrev pub IsLost : List ℕ → (code used used' : ℕ) → Type 0
 IsLost text code used used' =
     ((code ≡ no_game) × (used' ≡ used) × ComesLast text)

@@ -1,4 +1,4 @@
-//! Answers of a board, which are written on a page, and replies of an engine; and how they are handed out.
+//! Answers of a board, which are gathered on a page, and replies of an engine; and how they are written to the caller.
 ghost use Rattle.std.specs.Prelude.{◌≡◌, ◌≤◌, ◌+◌, ◌++◌, [], length, MatchResult};
 ghost use Rattle.chess_cli.specs.TimedSessions.{reply_lines};
 ghost use Rattle.chess_bindings.specs.Answers.{IsLineAnswered, IsReplied};
@@ -16,7 +16,7 @@ use chess_search::Watch;
 use chess_uci::{Event, Reply, Session as Uci};
 use std::alloc::Allocator;
 
-/// Answers a line of the board, and hands out the text: 0, or `ROOM` where it is longer than the room for it; the line has been answered all the same. Or
+/// Answers a line of the board, and writes the text: 0, or `ROOM` where it is longer than the room for it; the line has been answered all the same. Or
 /// `MEMORY` where there is none to gather the answer to `path` or `pgn` in: all is as before. The page is empty between calls.
 pub fn answer<A: Allocator, B: Allocator, C: Allocator>(
     board: &mut Board<'_, A>,
@@ -75,7 +75,7 @@ pub fn reply_within<A: Allocator, W: Watch>(
     }
 }
 
-// Hands out the replies, each on a line of its own.
+// Writes the replies, each on a line of its own.
 fn hand_replies(replies: &ArrayVec<Reply, 4>, room: &mut [u8], count: &mut usize) -> u32
     ensures { IsHanded (reply_lines replies.now.items) result count.new room.old room.new }
 {

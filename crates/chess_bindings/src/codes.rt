@@ -1,4 +1,4 @@
-//! The statuses of the library's calls, and the numbers of the ways in which a game stands.
+//! The statuses of the library's calls, and the numbers of a game's statuses.
 
 ghost use Rattle.std.specs.Prelude.{◌≡◌};
 ghost use Rattle.chess_bindings.specs.Codes.{fault_code, outcome_code};
@@ -64,7 +64,7 @@ pub fn fault_code(kind: FaultKind) -> u32
     }
 }
 
-/// How a game stands, as a number: 0 mate, 1 stalemate, 2 dead, 3 fivefold repetition, 4 the 75 moves, 5 play (FIDE Laws 5.1.1, 5.2.1, 5.2.2, 9.6).
+/// A game's status, as a number: 0 mate, 1 stalemate, 2 dead, 3 fivefold repetition, 4 the 75 moves, 5 play (FIDE Laws 5.1.1, 5.2.1, 5.2.2, 9.6).
 pub fn outcome_code(outcome: Status) -> u32
     ensures { result ≡ outcome_code outcome }
 {

@@ -39,7 +39,7 @@ fn outcome_in(number: u32) -> Option<Outcome>
     }
 }
 
-// Hands out a text, if there is one.
+// Writes a text, if there is one.
 fn hand_if_there(text: Option<&[u8]>, room: &mut [u8], count: &mut usize) -> u32
     ensures { HandedIfThere (option_map (λ text. text.now) text.entry) result count.old count.new room.old room.new }
 {
@@ -49,7 +49,7 @@ fn hand_if_there(text: Option<&[u8]>, room: &mut [u8], count: &mut usize) -> u32
     }
 }
 
-/// Hands out the value of the tag with that name: 0. 12 where there is none. Result, FEN and SetUp are no tags: the game itself has what they say.
+/// Writes the value of the tag with that name: 0. 12 where there is none. Result, FEN and SetUp are no tags: the game itself has what they say.
 pub fn tag<A: Allocator>(
     heading: &Heading<'_, A>,
     name: &[u8],
@@ -61,7 +61,7 @@ pub fn tag<A: Allocator>(
     hand_if_there(heading.tag(name), room, count)
 }
 
-/// Hands out the name of the tag at that place, from 0, in the order of the export form: 0. 12 where there are no more.
+/// Writes the name of the tag at that place, from 0, in the order of the export form: 0. 12 where there are no more.
 pub fn tag_name<A: Allocator>(
     heading: &Heading<'_, A>,
     place: usize,
@@ -105,7 +105,7 @@ pub fn set_outcome<A: Allocator>(heading: &mut Heading<'_, A>, number: u32) -> u
     }
 }
 
-/// Hands out the export form of the game with that heading and the moves of the tree (PGN 3.2): 0, or 10 where it is longer than the room for it; 2 where there
+/// Writes the export form of the game with that heading and the moves of the tree (PGN 3.2): 0, or 10 where it is longer than the room for it; 2 where there
 /// is no memory, and nothing is written.
 pub fn whole_game<'a, A: Allocator>(
     heading: &Heading<'a, A>,

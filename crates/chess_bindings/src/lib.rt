@@ -1,7 +1,7 @@
-//! What the library for C is made of: what is kept in a slot, and how answers are handed out.
+//! What the library for C is made of: what is kept in a slot, and how answers are written.
 //!
 //! `Loose` is a `Box` as a raw pointer, which a slot can keep; the slots are the library's own, since a type that crosses to C has no parameters. The others
-//! are calls over a text, a board or an engine, which hand out what they answer: `game`, `passed` and `report` of a text, `saved_game` of one that may need
+//! are calls over a text, a board or an engine, which write what they answer: `game`, `passed` and `report` of a text, `saved_game` of one that may need
 //! repair, `load` of one into a board and its heading, `next_game` and `load_next` of bytes of which more may come, `answer` of a line of the board, `reply`
 //! of an event of an engine; and over a `Heading`, a game's tags and its end: `tag`, `tag_name`, `set_tag`, `clear_tag`, `set_outcome`, `whole_game`. Each
 //! returns a status, of which 0 is success (`specs/Codes.antt`).

@@ -50,7 +50,7 @@ fn read_next<'a, A: Allocator>(
 }
 
 /// How many bytes of a text to pass over to what follows its first game, where only its first bytes are known, or all (`is_last`): 0, those of the game at their
-/// start, which is there whatever follows them. 16 where they are all white space, and nothing follows. Where no game is there, the number of the text's first
+/// start, which is there whatever follows them. 16 where they are all whitespace, and nothing follows. Where no game is there, the number of the text's first
 /// fault and 40, and the bytes that are given up with it. 14 where more bytes decide, and 2 where there is no memory: the number is as it was.
 pub fn next_game<A: Allocator>(alloc: &A, text: &[u8], is_last: bool, used: &mut usize) -> u32
     ensures { IsNext text.now is_last result used.old used.new }

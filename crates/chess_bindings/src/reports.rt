@@ -24,7 +24,7 @@ pub struct GameReport {
     pub plies: u32,
     /// How the game ended, as its text says: 0 for `*`, 1 for `1-0`, 2 for `0-1`, 3 for `1/2-1/2`.
     pub marker: u32,
-    /// How the last position stands, as a number of `outcome_code` (FIDE Laws 5.1.1, 5.2.1, 5.2.2, 9.6).
+    /// The last position's status, as a number of `outcome_code` (FIDE Laws 5.1.1, 5.2.1, 5.2.2, 9.6).
     pub status: u32,
     /// The side that has mated the other there: 0 for none, 1 for White, 2 for Black (FIDE Laws 1.4.1).
     pub winner: u32,

@@ -133,7 +133,7 @@ fn list<'a, A: Allocator>(
     Ok(reports)
 }
 
-// Hands out what a text is salvaged to; `None` where that is no game. Then, and where there is no memory, all is as it was.
+// Writes what a text is salvaged to; `None` where that is no game. Then, and where there is no memory, all is as it was.
 fn save<A: Allocator>(
     alloc: &A,
     text: &[u8],

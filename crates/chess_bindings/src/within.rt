@@ -4,7 +4,7 @@ ghost use Rattle.std.specs.Prelude.{is_some};
 use chess_search::Watch;
 use std::sync::atomic::{AtomicBool, Ordering};
 
-/// The time is up at the first position beyond so many, and where the flag, if there is one, is found set: it is looked at at the first position, and at each
+/// The time is up at the first position beyond `nodes`, and where the flag, if there is one, is found set: it is looked at at the first position, and at each
 /// 1,024th after it.
 #[derive(Drop)]
 pub struct Within<'f> {

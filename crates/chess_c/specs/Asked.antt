@@ -50,7 +50,7 @@ abbrev pub is_new_in : Option MoveParts → TreeParts → Bool
 is_new_in None board = false
 is_new_in (Some m) board = is_new board m
 
--- where the call is done, whether a node was added is handed out
+-- where the call is done, whether a node was added is written
 abbrev pub SaysAdded : (TreeParts → Bool) → Option Held → (code : ℕ) → (said said' : Bool) → Type 0
 SaysAdded is_new None code said said' = said' ≡ said
 SaysAdded is_new (Some held) code said said' = said' ≡ (if code == ok then is_new held.board else said)
@@ -60,12 +60,12 @@ abbrev pub claims_in : Option MoveParts → Line → Option Claims
 claims_in None line = None
 claims_in (Some m) line = claims_with line m
 
--- the draws that may be claimed are handed out, or the move isn't legal
+-- the draws that may be claimed are written, or the move isn't legal
 abbrev pub IsClaimed : Option Claims → (code said said' : ℕ) → Type 0
 IsClaimed None code said said' = (code ≡ refusal_code Illegal) × (said' ≡ said)
 IsClaimed (Some claims) code said said' = (code ≡ ok) × (said' ≡ claims_code claims)
 
--- the move that a text names is handed out, or why there is none
+-- the move that a text names is written, or why there is none
 abbrev pub IsRead : Result MoveParts SanFault → ℕ → (said said' : CMove) → Type 0
 IsRead (Ok m) code said said' = (code ≡ ok) × (said' ≡ move_shown m)
 IsRead (Err fault) code said said' = (code ≡ refusal_code (san_refusal fault)) × (said' ≡ said)
@@ -75,12 +75,12 @@ abbrev pub WrittenIf : Bool → PositionParts → MoveParts → (code count coun
 WrittenIf true p m code count count' old new = IsHanded (san p m) code count' old new
 WrittenIf false p m code count count' old new = (code ≡ refusal_code Illegal) × (count' ≡ count) × (new ≡ old)
 
--- the text of a legal move is handed out
+-- the text of a legal move is written
 abbrev pub IsWritten : Option MoveParts → PositionParts → (code count count' : ℕ) → (old new : List ℕ) → Type 0
 IsWritten None p code count count' old new = (code ≡ refusal_code Illegal) × (count' ≡ count) × (new ≡ old)
 IsWritten (Some m) p code count count' old new = WrittenIf (is_legal p m) p m code count count' old new
 
--- the best move and its value are handed out, or there is none
+-- the best move and its value are written, or there is none
 abbrev pub IsBest : Option (MoveParts × ℤ) → ℕ → (said said' : CMove) → (value value' : ℤ) → Type 0
 IsBest None code said said' value value' = (code ≡ none_best) × (said' ≡ said) × (value' ≡ value)
 IsBest (Some (m, worth)) code said said' value value' = (code ≡ ok) × (said' ≡ move_shown m) × (value' ≡ worth)
@@ -122,7 +122,7 @@ IsBestWithin says line depth code said said' value value' nodes nodes' =
     ((1 ≤ depth) × (depth ≤ 16) × BestFound says line depth code said said' value value' nodes')
     ⊎ (IsUnsearched line depth code × (said' ≡ said) × (value' ≡ value) × (nodes' ≡ nodes))
 
--- the move that leads to a node is handed out; none leads to the root
+-- the move that leads to a node is written; none leads to the root
 abbrev pub IsMoveHere : Option MoveParts → ℕ → (said said' : CMove) → Type 0
 IsMoveHere None code said said' = (code ≡ refusal_code AtRoot) × (said' ≡ said)
 IsMoveHere (Some m) code said said' = (code ≡ ok) × (said' ≡ move_shown m)
@@ -136,7 +136,7 @@ abbrev pub AttackedIf : Bool → (ℕ → Option Man) → Colour → (square cod
 AttackedIf true man_on colour square code said said' = (code ≡ ok) × (said' ≡ attackers_of man_on colour square)
 AttackedIf false man_on colour square code said said' = (code ≡ refusal_code Argument) × (said' ≡ said)
 
--- the attackers of a square are handed out, where the numbers are a colour and a square
+-- the attackers of a square are written, where the numbers are a colour and a square
 abbrev pub IsAttackedBy : (ℕ → Option Man) → Option Colour → (square code said said' : ℕ) → Type 0
 IsAttackedBy man_on None square code said said' = (code ≡ refusal_code Argument) × (said' ≡ said)
 IsAttackedBy man_on (Some colour) square code said said' = AttackedIf (nat_lt square 64) man_on colour square code said said'

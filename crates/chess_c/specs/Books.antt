@@ -1,7 +1,7 @@
 -- What an entry of an opening book says at a position.
 --   entry_move  the move that it stands for, where its key is the position's
 --   booked      that move, where it is legal
---   IsBooked    that move, how often to play it and the number for a program's own use are handed out, or why not
+--   IsBooked    that move, how often to play it and the number for a program's own use are written, or why not
 use Rattle.std.specs.Prelude.{◌≡◌, ℕ, ◌+◌, ◌*◌, ◌==◌, nat_lt, Bool, true, false, if◌then◌else◌, List, Option, Some, None}
 use Rattle.chess_types.specs.board.MoveParts.{MoveParts}
 use Rattle.chess_types.specs.board.Position.{PositionParts, man_on}

@@ -3,7 +3,7 @@
 --   Acts   of a call that may change the board: an empty slot is answered so; else the call on the board may end so, from the one board to the other
 --   AsksHeading, ActsOnHeading   the same two of a call on the tags and the end of a game
 --   IsCopied     of a copy into another slot: it is there, or there is no memory and the other slot is as it was
---   IsAnswerHanded  of a line: the board may answer it with a text, and go from the one board to the other; the text is handed out, or there was no memory, and all is as
+--   IsAnswerHanded  of a line: the board may answer it with a text, and go from the one board to the other; the text is written, or there was no memory, and all is as
 --                before (`IsLineAnswered`)
 --   IsReplying   of an event: the engine replies to it (`IsRepliedFrom`)
 --   IsSearching, IsInfinite, IsWaiting, IsEnded   what is shown of the engine: whether it searches, without an end of its own, and waits for `stop`; whether `quit` came
@@ -46,7 +46,7 @@ abbrev pub IsCopied : Option Held → ℕ → (other other' : Option Held) → T
 IsCopied None code other other' = (code ≡ empty_slot) × (other' ≡ other)
 IsCopied (Some held) code other other' = ((code ≡ ok) × (other' ≡ Some (copy_of held))) ⊎ ((code ≡ no_memory) × (other' ≡ other))
 
--- a line is answered, and the answer handed out
+-- a line is answered, and the answer written
 abbrev pub IsAnswerHanded : Option Held → List ℕ → (code count count' : ℕ) → (room room' : List ℕ) → Option Held → Type 0
 IsAnswerHanded None line code count count' room room' new = (code ≡ empty_slot) × (new ≡ None) × (count' ≡ count) × (room' ≡ room)
 IsAnswerHanded (Some held) line code count count' room room' new =

@@ -1,7 +1,7 @@
 -- What sort of move a legal one is, and which side can't mate.
 --   kinds_there    the sorts, added up: 1 for a capture, 2 en passant, 4 and 8 for castling to the king's and the queen's side, 16 for a pawn's move
---   IsOfKinds      they are handed out, or the move isn't legal
---   IsUnable       whether a side can't mate is handed out, where the number is a colour
+--   IsOfKinds      they are written, or the move isn't legal
+--   IsUnable       whether a side can't mate is written, where the number is a colour
 use Rattle.std.specs.Prelude.{◌≡◌, ℕ, ◌+◌, Bool, true, false, if◌then◌else◌, Option, Some, None, is_some}
 use Rattle.chess_types.specs.declared.board.man.Colour.{Colour}
 use Rattle.chess_types.specs.declared.board.man.Man.{Man}

@@ -41,7 +41,7 @@ move_between from to (Some promo) = Some (record { from = from; to = to; promo =
 abbrev pub move_meant : CMove → Option MoveParts
 move_meant m = if nat_lt m.from 64 && nat_lt m.to 64 then move_between m.from m.to (promotion_of_code m.promotion) else None
 
--- the long text of a move is handed out, or the numbers are no move
+-- the long text of a move is written, or the numbers are no move
 abbrev pub IsWrittenLong : Option MoveParts → (code count count' : ℕ) → (old new : List ℕ) → Type 0
 IsWrittenLong None code count count' old new = (code ≡ refusal_code Argument) × (count' ≡ count) × (new ≡ old)
 IsWrittenLong (Some m) code count count' old new = IsHanded (move_text m) code count' old new
@@ -50,7 +50,7 @@ IsWrittenLong (Some m) code count count' old new = IsHanded (move_text m) code c
 abbrev pub IsTextOf : List ℕ → MoveParts → Type 0
 IsTextOf text m = (m.from < 64) × (m.to < 64) × IsPromotion m.promo × (text ≡ move_text m)
 
--- the move whose text it is is handed out, or it is that of none
+-- the move that has that text is written, or no move has it
 abbrev pub IsParsed : List ℕ → ℕ → (said said' : CMove) → Type 0
 IsParsed text code said said' =
     ((code ≡ ok) × (m : MoveParts) × IsTextOf text m × (said' ≡ move_shown m))

@@ -5,10 +5,10 @@
 --   left         how many roots are left
 --   best_so_far  the best of the roots that were searched, and its value
 --   IsBegunFrom, IsBegun   a search is begun at a depth from 1 to 16 plies; or the depth is another, or there is no legal move, or no memory
---   SlicedFrom, IsSliced   one root more is searched, and how many are left is handed out; or none was begun
+--   SlicedFrom, IsSliced   one root more is searched, and how many are left is written; or none was begun
 --   next_if, next_size     one root more, unless it is abandoned; how many positions plain minimax asks for it, if one is left
---   SlicedWithinFrom, IsSlicedWithin   one root more is searched, and how many are left is handed out, or it is abandoned; and how many positions were asked for
---   best_of, IsSoFar       the best so far is handed out; or none was searched
+--   SlicedWithinFrom, IsSlicedWithin   one root more is searched, and how many are left is written, or it is abandoned; and how many positions were asked for
+--   best_of, IsSoFar       the best so far is written; or none was searched
 --   IsEnded                there is no search any more
 use Rattle.std.specs.Prelude.{◌≡◌, ◌⊎◌, ◌<◌, ◌≤◌, ℕ, ◌-◌, ◌+◌, min, Bool, true, false, [], take, length, Option, Some, None, ℤ}
 use Rattle.chess_types.specs.board.MoveParts.{MoveParts}
@@ -70,7 +70,7 @@ abbrev pub SlicedIf : Bool → Searching → (code said said' : ℕ) → Type 0
 SlicedIf true s code said said' = (code ≡ ok) × (said' ≡ left (one_more s))
 SlicedIf false s code said said' = (code ≡ was_abandoned) × (said' ≡ said)
 
--- a root more is searched, or abandoned as a watch says, once so many positions were asked for
+-- a root more is searched, or abandoned as a watch says, once `nodes` positions were asked for
 pub record StepsWithin (says : ℕ → Option Bool) (s : Searching) (made : Bool) (nodes : ℕ) : Type 0 where
   pub watched : IsWatched says nodes made
   pub at_least : min 1 (next_size s) ≤ nodes
@@ -103,7 +103,7 @@ IsSlicedWithin says None code said said' nodes nodes' new = (code ≡ empty_slot
 IsSlicedWithin says (Some held) code said said' nodes nodes' new =
     (after : Option Searching) × SlicedWithinFrom says held.search code said said' nodes nodes' after × (new ≡ Some (with_search after held))
 
--- the best so far is handed out
+-- the best so far is written
 abbrev pub IsSoFar : Option Held → ℕ → (said said' : CMove) → (value value' : ℤ) → Option Held → Type 0
 IsSoFar None code said said' value value' new = (code ≡ empty_slot) × (new ≡ None) × (said' ≡ said) × (value' ≡ value)
 IsSoFar (Some held) code said said' value value' new = IsBest (best_of held.search) code said said' value value' × (new ≡ Some held)

@@ -1,4 +1,4 @@
-//! What C asks of a board without changing it: how the game stands, counts, checks, moves, texts, and the best move.
+//! What C asks of a board without changing it: the game's status, counts, checks, moves, texts, and the best move.
 
 ghost use Rattle.std.specs.Prelude.{◌≡◌, ◌<◌, ℕ, max, map, is_some};
 ghost use Rattle.std.specs.FinSet.{contains};
@@ -37,7 +37,7 @@ use chess_memory::{Heap, Kept};
 use chess_play::Live;
 use chess_types::{Colour, Square, SquareSet};
 
-/// How the game stands: 0 mate, 1 stalemate, 2 dead, 3 fivefold repetition, 4 the 75 moves, 5 play (FIDE Laws 5.1.1, 5.2.1, 5.2.2, 9.6).
+/// The game's status: 0 mate, 1 stalemate, 2 dead, 3 fivefold repetition, 4 the 75 moves, 5 play (FIDE Laws 5.1.1, 5.2.1, 5.2.2, 9.6).
 #[unsafe(no_mangle)]
 pub extern "C" fn jatshegi_board_outcome(alloc: Kept, slot: &mut Slot, outcome: &mut u32) -> u32
     ensures { Asks (outcome.new ≡ outcome.old) (λ board code. (code ≡ 0) × (outcome.new ≡ outcome_code (status (line_to board)))) slot.old.held result slot.new.held }
@@ -264,8 +264,8 @@ pub extern "C" fn jatshegi_board_fen(
     code
 }
 
-/// The text by which the Laws tell positions apart, at most 128 bytes: the first four fields of the FEN, with the en passant target only where a legal move
-/// captures on it (FIDE Laws 9.2.3; `identity_laws` of `chess_draws`).
+/// The text that shows which positions are the same by the Laws, at most 128 bytes: the first four fields of the FEN, with the en passant target only
+/// where a legal move captures on it (FIDE Laws 9.2.3; `identity_laws` of `chess_draws`).
 #[unsafe(no_mangle)]
 pub extern "C" fn jatshegi_board_epd(
     alloc: Kept,
@@ -406,7 +406,7 @@ pub extern "C" fn jatshegi_board_best(
     code
 }
 
-/// The same, for which no more positions may be asked for than so many, the one at the cursor counted, and which is abandoned where the flag of the handle, if
+/// The same, for which at most `nodes` positions may be asked for, the one at the cursor counted, and which is abandoned where the flag of the handle, if
 /// there is one, is found set. How many positions were asked for. It takes memory for a line of its own.
 #[unsafe(no_mangle)]
 pub extern "C" fn jatshegi_board_best_within(

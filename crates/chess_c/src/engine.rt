@@ -56,7 +56,7 @@ pub extern "C" fn jatshegi_engine_slice(
     happen(alloc, slot, Event::Slice, replies, count)
 }
 
-/// The same, for which so many positions may be asked for, and which is abandoned where the flag of the handle, if there is one, is found set at a 1,024th
+/// The same, for which `nodes` positions may be asked for, and which is abandoned where the flag of the handle, if there is one, is found set at a 1,024th
 /// position. Whether it was made, and how many positions were asked for; where it was abandoned, nothing is replied, and the engine is as before.
 #[unsafe(no_mangle)]
 pub extern "C" fn jatshegi_engine_slice_within(
@@ -82,7 +82,7 @@ pub extern "C" fn jatshegi_engine_slice_within(
     code
 }
 
-/// The clock reads so many milliseconds; the replies.
+/// The clock reads `moment` milliseconds; the replies.
 #[unsafe(no_mangle)]
 pub extern "C" fn jatshegi_engine_moment(
     alloc: Kept,

@@ -42,7 +42,7 @@ impl Flag {
     }
 }
 
-/// No more positions than so many, and the flag of a handle, if there is one.
+/// No more positions than `nodes`, and the flag of a handle, if there is one.
 pub fn within(nodes: u64, flag: &Option<Box<Flag, Kept>>) -> Within<'_>
     ensures { (result.nodes ≡ nodes) × (is_some result.flag ≡ is_some flag.now) }
 {

@@ -82,7 +82,7 @@ pub extern "C" fn jatshegi_game_pass(lender: Lender, text: &[u8], used: &mut usi
 }
 
 /// How many bytes of a text to pass over to what follows its first game, where only its first bytes are known, or all (`is_last`): 0, those of the game at
-/// their start, which is there whatever follows. 16 where all are white space, and nothing follows. Where no game is there, the number of the text's first
+/// their start, which is there whatever follows. 16 where all are whitespace, and nothing follows. Where no game is there, the number of the text's first
 /// fault and 40, and the bytes that are given up with it, as `jatshegi_game_pass` has them of the whole text. 14 where more bytes decide, and 2 where there is
 /// no memory: the number is as it was.
 #[unsafe(no_mangle)]

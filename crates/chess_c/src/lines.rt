@@ -9,7 +9,7 @@ use crate::slot::{Slot, put, take};
 use chess_bindings::EMPTY;
 use chess_memory::Kept;
 
-/// Answers a line of the board, as the program does, and hands out the answer with the line feed at its end. Where the answer is longer than the room
+/// Answers a line of the board, as the program does, and writes the answer with the line feed at its end. Where the answer is longer than the room
 /// for it, or there is no memory to gather it in, the line has been answered all the same; only `path` and `pgn` have answers of more than 2,600 bytes.
 #[unsafe(no_mangle)]
 pub extern "C" fn jatshegi_board_answer(

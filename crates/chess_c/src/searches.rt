@@ -38,7 +38,7 @@ pub extern "C" fn jatshegi_search_slice(alloc: Kept, slot: &mut Slot, left: &mut
     code
 }
 
-/// Searches one legal move more, for which so many positions may be asked for, and which is abandoned where the flag of the handle, if there is one, is found set
+/// Searches one legal move more, for which `nodes` positions may be asked for, and which is abandoned where the flag of the handle, if there is one, is found set
 /// at a 1,024th position. How many positions were asked for is written then, too, and the search is as before.
 #[unsafe(no_mangle)]
 pub extern "C" fn jatshegi_search_slice_within(

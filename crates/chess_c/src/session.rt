@@ -128,7 +128,7 @@ impl Session {
         self.page = None;
     }
 
-    /// Answers a line, and hands out the text: 0, or `ROOM` where it is longer than the room for it; the line has been answered all the same. Or `MEMORY` where
+    /// Answers a line, and writes the text: 0, or `ROOM` where it is longer than the room for it; the line has been answered all the same. Or `MEMORY` where
     /// there is none for the page or to gather the answer in: all is as before.
     pub fn answer(&mut self, line: &[u8], room: &mut [u8], count: &mut usize) -> u32
         ensures board { IsLineAnswered self.old.board line.now result count.old count.new room.old room.new self.new.board }
@@ -145,7 +145,7 @@ impl Session {
         code
     }
 
-    /// Hands out the whole game in export form, with its tags and its end (PGN 3.2).
+    /// Writes the whole game in export form, with its tags and its end (PGN 3.2).
     pub fn whole_game(&self, room: &mut [u8], count: &mut usize) -> u32
         ensures { IsAnsweredBy (game_text (record { tags = self.now.heading.tags; outcome = self.now.heading.outcome; tree = self.now.board.tree })) result count.old count.new room.old room.new }
     {

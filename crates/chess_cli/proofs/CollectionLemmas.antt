@@ -13,7 +13,7 @@ use Rattle.chess_items.proofs.LastLemmas.{joins}
 use Rattle.chess_items.proofs.ReadLemmas.{empty_is}
 use Rattle.chess_pgn.specs.Games.{Game}
 use Rattle.chess_pgn.specs.Reading.{HasNoGame, HasNoGameYet, BeginsWithGame, IsWhite}
-use Rattle.chess_pgn.specs.Sources.{EndsOpen, Fails, Games, GoesOn, HasFault, HasGame, HasNone, NextGame, Starves}
+use Rattle.chess_pgn.specs.Sources.{EndsOpen, Fails, Games, HasFault, HasGame, HasNone, MayGoOn, NextGame, Starves}
 use Rattle.chess_pgn.specs.Written.{game_text}
 use Rattle.chess_pgn.specs.steps.GameCode.{game_of}
 use Rattle.chess_pgn.specs.declared.game.Game.{Game as Code}
@@ -149,8 +149,8 @@ module _ {R : Type 0} (source : Source R) where
     }
 
 -- where no fault came, reading goes on
-pub still_on : (fault : Option GamesFault) → fault ≡ None → GoesOn fault
-still_on fault e = subst (λ (f : Option GamesFault). GoesOn f) (sym e) tt
+pub still_on : (fault : Option GamesFault) → fault ≡ None → MayGoOn fault
+still_on fault e = subst (λ (f : Option GamesFault). MayGoOn f) (sym e) tt
 
 pub if_ok : {A E : Type 0} (P : Type 0) (result : Result A E) (x : A) → result ≡ Ok x → IfOk result (λ y. P) → P
 if_ok P result x is h = subst (λ r. IfOk r (λ y. P)) is h

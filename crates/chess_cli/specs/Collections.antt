@@ -1,7 +1,7 @@
 -- How a run over a collection of games ends: which games were read, and what the writer took.
 --   games_text    the export forms of games, one after another
---   AreGames      games stand one after another at the start of a text, and this is left
---   Collected     these games stand so at the start of what a source gave up to where it was left, whatever it gives next; no read failed
+--   AreGames      games come one after another at the start of a text, and this is left
+--   Collected     these games come so at the start of what a source gave up to where it was left, whatever it gives next; no read failed
 --   WritesGames   they are written whole, and nothing else; no write failed
 --   WholeBefore   before the last read games were there, and no one game after them; where these are all, this holds of what comes after them
 --   HoldsWhole    so it is, or no read was made

@@ -1,5 +1,5 @@
 -- How a run of the board ends, one of a session, and one over a collection of games.
---   BoardEnds          the board's answers to the lines that were read are written, with so many reads at most
+--   BoardEnds          the board's answers to the lines that were read are written, with at most `most` reads
 --   session            what answers lines where a session does
 --   TimedSessionEnds   so are a session's replies
 --   CollectionEnds     so are the games that were read

@@ -1,7 +1,7 @@
 -- What a run's end means to the system: the exit status, and the line for the standard error.
 use Rattle.std.specs.Prelude.{ℕ, List, ◌++◌, codes, decimal}
 use Rattle.chess_items.specs.declared.fault.PgnFault.{PgnFault}
-use Rattle.chess_items.specs.Faults.{number_of, name_of}
+use Rattle.chess_items.specs.Faults.{fault_number, name_of}
 use Rattle.chess_cli.specs.declared.ended.Ended.{Ended}
 use Rattle.chess_cli.specs.declared.ended.Ended.TheVariants.{Good, Input, ReadFault, WriteFault, Memory}
 
@@ -15,7 +15,7 @@ status_of Memory = 3
 
 -- the place in bytes from the input's beginning, and the kind by number and name
 abbrev pub fault_text : PgnFault → List ℕ
-fault_text fault = codes "fault " ++ decimal fault.place ++ codes " " ++ decimal (number_of fault.kind) ++ codes " " ++ name_of fault.kind
+fault_text fault = codes "fault " ++ decimal fault.place ++ codes " " ++ decimal (fault_number fault.kind) ++ codes " " ++ name_of fault.kind
 
 -- without a line feed; empty where there is nothing to report
 abbrev pub message_of : Ended → List ℕ

@@ -1,7 +1,7 @@
 -- What holds of paths, and of games that are written one after the other.
 --   PathsAreReadBack  a path that is written is read as that path
 --   CanBeRead         a game whose text isn't too long to be read, nor its variations too deep
---   WrittenAreRead    such games are read again, in their order, and only white space is left
+--   WrittenAreRead    such games are read again, in their order, and only whitespace is left
 --   ReadAreGames      what is read one after the other are games, and their variations not too deep
 use Rattle.std.specs.Prelude.{◌≡◌, ℕ, ◌<◌, ◌≤◌, false, List, length, Some}
 use Rattle.std.specs.List.{AllByRecursion}

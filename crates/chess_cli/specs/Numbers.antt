@@ -11,7 +11,7 @@ use Rattle.std.specs.Str.{bytes_eq, byte}
 use Rattle.std.specs.Str.Parse.{digits_value}
 use Rattle.chess_cli.specs.Gaps.{separated_by}
 
--- one to six decimal digits; zeros may stand first
+-- one to six decimal digits; zeros may come first
 abbrev pub is_number : List ℕ → Bool
 is_number word = list_all is_ascii_digit word && nat_le 1 (length word) && nat_le (length word) 6
 

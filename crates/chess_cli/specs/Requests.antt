@@ -47,13 +47,13 @@ pub data Request : Type 0 where
   Nag : ℕ → Request
   -- `count`: how often the position has come up
   Count : Request
-  -- `status`: how the game stands
+  -- `status`: the game's status
   Status : Request
   -- `claims`: the draws that may be claimed
   Claims : Request
   -- `claim M`: those that may be claimed with a move
   Claim : List ℕ → Request
-  -- `best D`: the best move, so many plies deep
+  -- `best D`: the best move, D plies deep
   Best : ℕ → Request
   -- `pgn`: the whole game in export form
   Pgn : Request
@@ -74,7 +74,7 @@ without_return line = if slice_index line (length line - 1) == 13 then take (len
 abbrev pub rest_of : List ℕ → List ℕ
 rest_of line = after_first_word word_gaps line
 
--- a command that stands alone
+-- a command of one word
 abbrev pub alone : Request → List (List ℕ) → Request
 alone request [] = request
 alone request (word ∷ words) = Malformed
@@ -106,7 +106,7 @@ colour_in word = if bytes_eq word (codes "w") then Some White else if bytes_eq w
 abbrev pub nag_in : List ℕ → Option ℕ
 nag_in word = option_and_then (λ nag. if nat_le nag 255 then Some nag else None) (number_in word)
 
--- a command that stands alone, by its word
+-- a command of one word, by that word
 abbrev pub alone_named : List ℕ → Option Request
 alone_named word =
     if bytes_eq word (codes "new") then Some New

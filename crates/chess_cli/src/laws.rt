@@ -5,7 +5,7 @@ ghost use Rattle.chess_cli.specs.Laws.{PathsAreReadBack, ReadAreGames, WrittenAr
 use chess_pgn::game_laws;
 
 /// What holds of collections of games: its clauses are laws of the definitions by which `pgn` reads and writes, and it does nothing.
-/// Games that are written one after the other are read again as those games, and only white space is left after them; so what `pgn`
+/// Games that are written one after the other are read again as those games, and only whitespace is left after them; so what `pgn`
 /// writes it reads and writes as it is, unless a text is too long to be read. Each game that is read is one of which that holds.
 pub fn collection_laws()
     ensures written { WrittenAreRead }

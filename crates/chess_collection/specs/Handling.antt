@@ -5,7 +5,7 @@
 --                looked at where it begins say; and the bytes after them
 --   written_of   what is written of stretches
 --   bad_in       how many games can't be read, and count; passed_in, how many bytes are passed over
---   Reaches      bytes came from a source that there may be so many reads of, and stretches of them go up to what is at hand, whatever comes next
+--   Reaches      bytes came from a source of which `reads` reads may be made, and stretches of them go up to what is at hand, whatever comes next
 --   HasTotals    how many stretches there are, and bytes of them and after them, and bytes that are passed over; and how many games can't be read, and count
 --   WentOver     stretches are reached, and a text and what is written of them are carried to a sink, whole and no more; no call failed
 --   GoesOver     how going over a collection ends: it has ended, and nothing but what the handler calls white comes after the stretches; or a read failed, or there may be no
@@ -44,7 +44,7 @@ abbrev pub bad_of : Fate → ℕ
 bad_of Lost = 1
 bad_of _ = 0
 
--- how many of so many bytes are passed over
+-- how many of `used` bytes are passed over
 abbrev pub passed_of : Fate → ℕ → ℕ
 passed_of Read used = 0
 passed_of _ used = used

@@ -3,7 +3,7 @@
 --   tag_among    the value of the first tag of a name among items
 --   IsHead       the items at the start of a text before its movetext, as far as they go: what comes next begins the movetext (PGN 8.2), or is no item, or reaches
 --                past 1,048,576 bytes
---   IsBlank      a text is white space, marks and hidden lines
+--   IsBlank      a text is whitespace, marks and hidden lines
 --   IsThreeOf    the values of three tags of the head; a text that is blank has none
 --   IsHeadingOf  what the tags of the head say of the end and the beginning
 use Rattle.std.specs.Prelude.{◌≡◌, ◌⊎◌, ◌<◌, ◌≤◌, ◌+◌, ℕ, true, not, if◌then◌else◌, bytes_eq, codes, List, [], ◌∷◌, ◌++◌, length, Option, Some, None}
@@ -49,7 +49,7 @@ three_among first second third is = record { first = tag_among first is; second 
 abbrev pub three_none : Three
 three_none = record { first = None; second = None; third = None }
 
--- in the head of a text; a text of white space has none
+-- in the head of a text; a text of whitespace has none
 abbrev pub IsThreeOf : List ℕ → (first second third : List ℕ) → Three → Type 0
 IsThreeOf text first second third three = ((is : List Item) × IsHead text is × (three ≡ three_among first second third is)) ⊎ (IsBlank text × (three ≡ three_none))
 

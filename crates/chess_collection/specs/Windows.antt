@@ -5,7 +5,7 @@
 --   Comes    more bytes came, and are at hand after the others; no read failed, and none was made after the end was seen
 --   NoMore   bytes came, and then a read failed, or there may be no more; or there was no memory
 --   IsWide   as many bytes are at hand as are looked at for a game, which are more than it may have; or all that are left
---   IsLookedAt   bytes that are looked at: all that are left, or the first of them, so many at least
+--   IsLookedAt   bytes that are looked at: all that are left, or the first of them, 1,179,648 at least
 use Rattle.std.specs.Prelude.{◌≡◌, ◌⊎◌, ◌≤◌, ℕ, ◌+◌, ◌*◌, Bool, true, List, [], ◌++◌, length}
 use Rattle.byte_streams.specs.Calls.{Carries}
 use Rattle.chess_command_line.specs.declared.collection.Failure.{Failure}
@@ -30,7 +30,7 @@ pub record Comes {R : Type 0} (gives : R → List ℕ → R → Type 0) (failed 
   pub sized : length bytes ≤ 65536 * length came.pieces
   pub still : old.has_ended ≡ true → (bytes ≡ []) × (new.has_ended ≡ true)
 
--- from a source that there may be so many reads of
+-- from a source of which `reads` reads may be made
 abbrev pub NoMore : {R : Type 0} → (R → List ℕ → R → Type 0) → (R → Bool) → R → ℕ → R → Failure → Type 0
 NoMore {R} gives failed old reads new by.Read =
     (mid : R) × (bytes : List ℕ) × (came : Carries gives old bytes mid) × (failed mid ≡ failed old)

@@ -118,7 +118,7 @@ impl Totals {
         self.bytes += handled.used as u64;
     }
 
-    // All stretches, after which so many bytes are left.
+    // All stretches, after which `rest` bytes are left.
     fn with_rest(self, games: u64, rest: usize) -> Totals
         requires bytes { self.bytes + rest < 18446744073709551616 }
         ensures games { result.games ≡ games }

@@ -34,8 +34,8 @@ pub trait GameHandler {
     ghost use Rattle.std.specs.Prelude.{ℕ, List};
     ghost use Rattle.chess_collection.specs.declared.handler.Fate.{Fate};
 
-    /// Of the stretch with that number, before which there are so many bytes, at the start of these bytes: so many bytes are its own, this is what they
-    /// are, and this text is written of it.
+    /// Of a stretch: its number, the number of bytes before it, the bytes that are looked at, how many of them are its own, what they are, and the text
+    /// that is written of it.
     ghost handles: { Self → ℕ → ℕ → List ℕ → ℕ → Fate → List ℕ → Type 0 };
 
     /// No game, and no other stretch, is in these bytes.

@@ -9,7 +9,7 @@ use chess_items::{AtHand, Fault};
 use std::alloc::Allocator;
 use std::marker::Model;
 
-/// How many bytes are at hand at the start of each game, at least, if there are so many: more than a game has.
+/// How many bytes are at hand at the start of each game, at least, if that many are left: more than a game has.
 const LEAST: usize = 1_179_648;
 
 /// How many are read where there are fewer, so that bytes aren't moved for each game.
@@ -115,7 +115,7 @@ impl<'a, R: Source, A: Allocator> Window<'a, R, A> {
         Ok(())
     }
 
-    /// Reads until so many bytes are at hand, or the source has ended.
+    /// Reads until `most` bytes are at hand, or the source has ended.
     pub fn fill(&mut self, most: usize) -> Result<(), Failure>
         requires sound { KnowsItsEnd R.ended self.old }
         ensures came { IfOk result (λ _. Comes R.gives R.failed self.old self.new) }
@@ -129,14 +129,14 @@ impl<'a, R: Source, A: Allocator> Window<'a, R, A> {
         Ok(())
     }
 
-    /// Whether so many bytes are at hand as are looked at for a game, or the source has ended.
+    /// Whether as many bytes are at hand as are looked at for a game, or the source has ended.
     pub fn is_wide(&self) -> bool
         ensures { result ≡ true → IsWide self.now }
     {
         self.has_ended || self.unread().len() >= LEAST
     }
 
-    /// Sees to it that so many are, and where they aren't reads more than that, so that bytes aren't moved for each game.
+    /// Sees to it that as many are, and where they aren't, reads more than that, so that bytes aren't moved for each game.
     pub fn widen(&mut self) -> Result<(), Failure>
         requires sound { KnowsItsEnd R.ended self.old }
         ensures came { IfOk result (λ _. Comes R.gives R.failed self.old self.new) }

@@ -10,7 +10,7 @@ use Rattle.chess_types.specs.board.Lines.{Line, play, AreLegal, last, positions,
 use Rattle.chess_types.specs.board.Repetition.{repetitions}
 use Rattle.chess_types.proofs.Counters.{clock_more}
 use Rattle.chess_types.proofs.PlayLaws.{last_extended}
-use Rattle.chess_draws.specs.declared.ply.Ply.{Ply}
+use Rattle.chess_draws.specs.steps.KeptPlies.{PlyParts}
 use Rattle.chess_draws.specs.steps.Plies.{IsLine}
 use Rattle.chess_play.specs.LiveParts.{LiveParts}
 use Rattle.chess_draws.specs.declared.repetition_key.RepetitionKey.{RepetitionKey}
@@ -58,7 +58,7 @@ pub below : (bound here clock : ℕ) → here ≡ clock → nat_lt here bound �
 below bound here clock same low = grind (arith, same, low)
 
 -- no legal move leads to a draw other than a dead position
-pub far_from_draw : {start : PositionParts} {plies : List Ply} {live : LiveParts} {here : RepetitionKey} {looked room compared : ℕ} {parts : LineParts} →
+pub far_from_draw : {start : PositionParts} {plies : List PlyParts} {live : LiveParts} {here : RepetitionKey} {looked room compared : ℕ} {parts : LineParts} →
     IsLine start plies live here → seen start plies looked live room compared ≡ parts → (claims : Bool) →
     (last parts.line).clock < (if claims then 3 else 7) → (m : MoveParts) → m.from < 64 → m.to < 64 → is_legal (last parts.line) m ≡ true →
     (is_drawn (extended parts.line m) || (claims && is_claimable (extended parts.line m))) ≡ is_dead (last (extended parts.line m))

@@ -14,7 +14,7 @@ use Rattle.chess_types.specs.board.Lines.{play, AreLegal, positions_from}
 use Rattle.chess_types.specs.board.Repetition.{is_same}
 use Rattle.chess_types.proofs.MoveLemmas.{pseudo_man, legal_pseudo}
 use Rattle.chess_moves.proofs.LegalLaws.{legal_well_formed}
-use Rattle.chess_draws.specs.declared.ply.Ply.{Ply}
+use Rattle.chess_draws.specs.steps.KeptPlies.{PlyParts}
 use Rattle.chess_draws.specs.steps.Plies.{ArePlies, move_of}
 use Rattle.chess_draws.specs.steps.LookBack.{came_back}
 use Rattle.chess_draws.proofs.SameLemmas.{is_same_self, other_side, sides_differ}
@@ -184,6 +184,6 @@ module _ (start : PositionParts) (ms : List MoveParts) (setup : IsSetup start) (
       omega (arith, all, few_from half (omega arith))
 
 -- the plies' moves
-pub plies_on_board : (start : PositionParts) (plies : List Ply) → ArePlies start plies → AreOnBoard (map move_of plies)
+pub plies_on_board : (start : PositionParts) (plies : List PlyParts) → ArePlies start plies → AreOnBoard (map move_of plies)
 plies_on_board start [] are = tt
 plies_on_board start (ply ∷ plies) are = (are.0.from, are.0.to, plies_on_board (after start ply.past.played) plies are.1)

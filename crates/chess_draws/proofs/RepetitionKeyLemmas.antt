@@ -21,7 +21,7 @@ use Rattle.chess_types.proofs.SquareLemmas.{every_square}
 use Rattle.chess_types.proofs.SameLemmas.{same_is, kind_is, same_self, kind_self}
 use Rattle.chess_draws.specs.declared.men.MenSets.{MenSets}
 use Rattle.chess_draws.specs.declared.repetition_key.RepetitionKey.{RepetitionKey}
-use Rattle.chess_draws.specs.declared.ply.Ply.{Ply}
+use Rattle.chess_draws.specs.steps.KeptPlies.{PlyParts}
 use Rattle.chess_draws.specs.steps.RepetitionKeys.{holds_straight_or_king, holds_short, IsMenOf, IsKeyOf, same_men, same_moves}
 use Rattle.chess_draws.specs.steps.Plies.{IsPly}
 
@@ -168,7 +168,7 @@ three true r t = refl
 three false r t = refl
 
 -- the side and the men, and what is kept of a ply
-by_moves : (q p : PositionParts) (key : RepetitionKey) (ply : Ply) → IsKeyOf key q → IsPly p ply →
+by_moves : (q p : PositionParts) (key : RepetitionKey) (ply : PlyParts) → IsKeyOf key q → IsPly p ply →
     is_same q p ≡ (same_colour q.side p.side && list_all (λ s. same_man (man_on q s) (man_on p s)) squares && same_moves key ply)
 unfolding is_same same_moves
 by_moves q p key ply is of =
@@ -181,11 +181,11 @@ by_moves q p key ply is of =
     ∙ three men (same_rights key.rights ply.past.rights) (same_target key.target ply.target)
 
 -- where other moves are possible it is another one
-pub other_moves : (q p : PositionParts) (key : RepetitionKey) (ply : Ply) → IsKeyOf key q → IsPly p ply → same_moves key ply ≡ false → is_same q p ≡ false
+pub other_moves : (q p : PositionParts) (key : RepetitionKey) (ply : PlyParts) → IsKeyOf key q → IsPly p ply → same_moves key ply ≡ false → is_same q p ≡ false
 other_moves q p key ply is of differ = by_moves q p key ply is of ∙ and_right _ (same_moves key ply) differ
 
 -- else the men decide
-pub by_men : (q p : PositionParts) (key : RepetitionKey) (ply : Ply) (men : MenSets) → IsKeyOf key q → IsPly p ply → same_moves key ply ≡ true →
+pub by_men : (q p : PositionParts) (key : RepetitionKey) (ply : PlyParts) (men : MenSets) → IsKeyOf key q → IsPly p ply → same_moves key ply ≡ true →
     p.side ≡ key.side → IsMenOf men (man_on p) → is_same q p ≡ same_men key.men men
 by_men q p key ply men is of agree side are =
     let own : same_colour q.side p.side ≡ true = ap (same_colour q.side) (side ∙ is.side) ∙ same_self q.side in
@@ -198,7 +198,7 @@ by_men q p key ply men is of agree side are =
     at_last false = refl
 
 -- the same moves are possible only where the same rights are held
-pub by_rights : (p : PositionParts) (key : RepetitionKey) (ply : Ply) → IsPly p ply → same_moves key ply ≡ true → same_rights key.rights p.rights ≡ true
+pub by_rights : (p : PositionParts) (key : RepetitionKey) (ply : PlyParts) → IsPly p ply → same_moves key ply ≡ true → same_rights key.rights p.rights ≡ true
 unfolding same_moves
 by_rights p key ply of agree =
     ap (λ r. same_rights key.rights r) (sym (ap (λ r. r.rights) of.past)) ∙ (and_parts (same_rights key.rights ply.past.rights) (same_target key.target ply.target) agree).0

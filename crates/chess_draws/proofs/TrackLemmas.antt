@@ -22,7 +22,7 @@ use Rattle.chess_types.specs.steps.KeptSets.{Gathers}
 use Rattle.chess_moves.proofs.LegalLaws.{legal_well_formed}
 use Rattle.chess_draws.specs.declared.look_back.Behind.{Behind}
 use Rattle.chess_draws.specs.declared.men.MenSets.{MenSets}
-use Rattle.chess_draws.specs.declared.ply.Ply.{Ply}
+use Rattle.chess_draws.specs.steps.KeptPlies.{PlyParts}
 use Rattle.chess_draws.specs.declared.repetition_key.RepetitionKey.{RepetitionKey}
 use Rattle.chess_draws.specs.steps.RepetitionKeys.{IsMenOf, same_men, same_moves}
 use Rattle.chess_draws.specs.steps.Plies.{IsPly, ArePlies, move_of}
@@ -33,12 +33,12 @@ use Rattle.chess_draws.proofs.PlyLemmas.{clock_on}
 use Rattle.chess_draws.proofs.LookBack.{rest_plays, side_then, twice}
 
 -- the ply at a place
-pub record Place (start : PositionParts) (plies : List Ply) (k : ℕ) (ply : Ply) : Type 0 where
+pub record Place (start : PositionParts) (plies : List PlyParts) (k : ℕ) (ply : PlyParts) : Type 0 where
   pub setup : IsSetup (position_at start (map move_of plies) k)
   pub is_ply : IsPly (position_at start (map move_of plies) k) ply
   pub next : position_at start (map move_of plies) (suc k) ≡ after (position_at start (map move_of plies) k) ply.past.played
 
-pub place : (start : PositionParts) (plies : List Ply) (k : ℕ) (other : Ply) → IsSetup start → ArePlies start plies → k < length plies →
+pub place : (start : PositionParts) (plies : List PlyParts) (k : ℕ) (other : PlyParts) → IsSetup start → ArePlies start plies → k < length plies →
     Place start plies k (get_or plies k other)
 place start [] k other setup are low = absurd (omega arith)
 place start (ply ∷ plies) zero other setup are low = record { setup = setup; is_ply = are.0; next = refl }
@@ -102,12 +102,12 @@ rights_same r s e =
     ap (same_rights r) (sym e) ∙ rw (bool_self r.white_king, bool_self r.white_queen, bool_self r.black_king, bool_self r.black_queen) refl
 
 -- one ply back: one man stood elsewhere, and the same rights were held after it too
-pub record WentBack (start : PositionParts) (plies : List Ply) (here : RepetitionKey) (k : ℕ) (m : MoveParts) : Type 0 where
+pub record WentBack (start : PositionParts) (plies : List PlyParts) (here : RepetitionKey) (k : ℕ) (m : MoveParts) : Type 0 where
   pub step : IsStep (man_on (position_at start (map move_of plies) k)) (man_on (position_at start (map move_of plies) (suc k))) m
   pub rights : same_rights here.rights (position_at start (map move_of plies) (suc k)).rights ≡ true
 
-module _ (start : PositionParts) (plies : List Ply) (here : RepetitionKey) (k : ℕ) (track : IsTrack start plies here k) (low : k < length plies) (other : Ply) where
-  abbrev ply : Ply
+module _ (start : PositionParts) (plies : List PlyParts) (here : RepetitionKey) (k : ℕ) (track : IsTrack start plies here k) (low : k < length plies) (other : PlyParts) where
+  abbrev ply : PlyParts
   ply = get_or plies k other
 
   abbrev there : PositionParts
@@ -158,16 +158,16 @@ module _ (start : PositionParts) (plies : List Ply) (here : RepetitionKey) (k : 
   side_next = ap (λ (s : PositionParts). s.side) at.next ∙ side_then there ply.past.played at.is_ply.legal
 
 -- a track is one from a later place, too
-pub later : {start : PositionParts} {plies : List Ply} {here : RepetitionKey} {k : ℕ} (n : ℕ) → IsTrack start plies here k → k ≤ n → IsTrack start plies here n
+pub later : {start : PositionParts} {plies : List PlyParts} {here : RepetitionKey} {k : ℕ} (n : ℕ) → IsTrack start plies here k → k ≤ n → IsTrack start plies here n
 later n track after = record { setup = track.setup; are_plies = track.are_plies; here_is = track.here_is; quiet = omega (arith, track.quiet, after) }
 
 -- a ply, where there is one
-some_ply : (plies : List Ply) → 0 < length plies → Ply
+some_ply : (plies : List PlyParts) → 0 < length plies → PlyParts
 some_ply [] low = absurd (omega arith)
 some_ply (ply ∷ plies) low = ply
 
-module _ {start : PositionParts} {plies : List Ply} {here : RepetitionKey} {k : ℕ} (track : IsTrack start plies here k) (low : k < length plies)
-    (m : MoveParts) (is : (other : Ply) → m ≡ move_of (get_or plies k other)) where
+module _ {start : PositionParts} {plies : List PlyParts} {here : RepetitionKey} {k : ℕ} (track : IsTrack start plies here k) (low : k < length plies)
+    (m : MoveParts) (is : (other : PlyParts) → m ≡ move_of (get_or plies k other)) where
   back_at : same_rights here.rights (position_at start (map move_of plies) k).rights ≡ true → WentBack start plies here k m
   back_at same =
       let other = some_ply plies (omega arith) in
@@ -197,13 +197,13 @@ module _ {start : PositionParts} {plies : List Ply} {here : RepetitionKey} {k : 
   still_same same = (back_at same).rights
 
 -- two plies back
-pub record IsTwoBack (start : PositionParts) (plies : List Ply) (here : RepetitionKey) (last : FinSet nat_cmp) (k : ℕ) : Type 0 where
+pub record IsTwoBack (start : PositionParts) (plies : List PlyParts) (here : RepetitionKey) (last : FinSet nat_cmp) (k : ℕ) : Type 0 where
   pub side : (position_at start (map move_of plies) k).side ≡ here.side
   pub occupied : same_rights here.rights (position_at start (map move_of plies) k).rights ≡ true →
       Gathers last is_some (man_on (position_at start (map move_of plies) k))
 
-pub two_back : {start : PositionParts} {plies : List Ply} {here : RepetitionKey} {k : ℕ} (track : IsTrack start plies here k) → k + 2 ≤ length plies →
-    (m n : MoveParts) → ((other : Ply) → m ≡ move_of (get_or plies k other)) → ((other : Ply) → n ≡ move_of (get_or plies (k + 1) other)) →
+pub two_back : {start : PositionParts} {plies : List PlyParts} {here : RepetitionKey} {k : ℕ} (track : IsTrack start plies here k) → k + 2 ≤ length plies →
+    (m n : MoveParts) → ((other : PlyParts) → m ≡ move_of (get_or plies k other)) → ((other : PlyParts) → n ≡ move_of (get_or plies (k + 1) other)) →
     {old : Behind} → IsBehind start plies here old (k + 2) → (next last : FinSet nat_cmp) →
     ((before after : Men) → IsStep before after n → Gathers old.occupied is_some after → Gathers next is_some before) →
     ((before after : Men) → IsStep before after m → Gathers next is_some after → Gathers last is_some before) →
@@ -212,7 +212,7 @@ two_back {start} {plies} {here} {k} track low m n m_is n_is {old} behind next la
     let one : k + 1 ≡ suc k = omega arith in
     let two : k + 2 ≡ suc (suc k) = omega arith in
     let after_two : IsBehind start plies here old (suc (suc k)) = subst (IsBehind start plies here old) two behind in
-    let n_there : (other : Ply) → n ≡ move_of (get_or plies (suc k) other) = subst (λ j. (other : Ply) → n ≡ move_of (get_or plies j other)) one n_is in
+    let n_there : (other : PlyParts) → n ≡ move_of (get_or plies (suc k) other) = subst (λ j. (other : PlyParts) → n ≡ move_of (get_or plies j other)) one n_is in
     let track_next : IsTrack start plies here (suc k) = later (suc k) track (omega arith) in
     record {
       side =
@@ -224,14 +224,14 @@ two_back {start} {plies} {here} {k} track low m n m_is n_is {old} behind next la
     }
 
 -- what is known then, with the men as before
-pub behind_as_before : {start : PositionParts} {plies : List Ply} {here : RepetitionKey} {k : ℕ} (old : Behind) {last : FinSet nat_cmp} →
+pub behind_as_before : {start : PositionParts} {plies : List PlyParts} {here : RepetitionKey} {k : ℕ} (old : Behind) {last : FinSet nat_cmp} →
     IsTwoBack start plies here last k → AreMenAt start plies here old.men old.known →
     IsBehind start plies here (record { occupied = last; men = old.men; known = old.known }) k
 behind_as_before old two men = record { side = two.side; occupied = two.occupied; men = men }
 
 -- the position there, and the ply
-module _ {start : PositionParts} {plies : List Ply} {here : RepetitionKey} {k : ℕ} (track : IsTrack start plies here k) (low : k < length plies) where
-  pub ply_there : (other : Ply) → IsPly (position_at start (map move_of plies) k) (get_or plies k other)
+module _ {start : PositionParts} {plies : List PlyParts} {here : RepetitionKey} {k : ℕ} (track : IsTrack start plies here k) (low : k < length plies) where
+  pub ply_there : (other : PlyParts) → IsPly (position_at start (map move_of plies) k) (get_or plies k other)
   ply_there other = (place start plies k other track.setup track.are_plies low).is_ply
 
   -- not the same, where other squares are occupied
@@ -243,7 +243,7 @@ module _ {start : PositionParts} {plies : List Ply} {here : RepetitionKey} {k : 
       (gathers (man_on (play start (map move_of plies))) track.here_is.men)
 
   -- nor where other moves were possible
-  pub other_possible : (agree : Bool) → ((other : Ply) → agree ≡ same_moves here (get_or plies k other)) → agree ≡ false →
+  pub other_possible : (agree : Bool) → ((other : PlyParts) → agree ≡ same_moves here (get_or plies k other)) → agree ≡ false →
       is_same (play start (map move_of plies)) (position_at start (map move_of plies) k) ≡ false
   other_possible agree told fails =
       let other = some_ply plies (omega arith) in
@@ -251,7 +251,7 @@ module _ {start : PositionParts} {plies : List Ply} {here : RepetitionKey} {k : 
       (sym (told other) ∙ fails)
 
   -- else by the men
-  pub told_by_men : {last : FinSet nat_cmp} → IsTwoBack start plies here last k → (agree : Bool) → ((other : Ply) → agree ≡ same_moves here (get_or plies k other)) →
+  pub told_by_men : {last : FinSet nat_cmp} → IsTwoBack start plies here last k → (agree : Bool) → ((other : PlyParts) → agree ≡ same_moves here (get_or plies k other)) →
       agree ≡ true → (men : MenSets) → AreMenAt start plies here men k →
       same_men here.men men ≡ is_same (play start (map move_of plies)) (position_at start (map move_of plies) k)
   told_by_men two agree told holds men are =

@@ -18,7 +18,7 @@ pub record LineParts : Type 0 where
   pub room : ℕ
   pub compared : ℕ
 
--- the parts as a tuple, by which a proof tells them apart
+-- the parts as a tuple, by which a proof distinguishes them
 abbrev pub coded_parts : Coded LineParts
 coded_parts =
     code_by ((Line × ℕ) × (List ℕ × (ℕ × (ℕ × ℕ))))

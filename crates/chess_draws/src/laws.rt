@@ -1,4 +1,4 @@
-//! The law of the text by which positions are told apart (FIDE Laws 9.2.3).
+//! The law of the text that shows which positions are the same (FIDE Laws 9.2.3).
 
 ghost use Rattle.std.specs.Prelude.{◌≡◌, true};
 ghost use Rattle.chess_types.specs.board.Lines.{last};

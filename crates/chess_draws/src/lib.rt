@@ -2,7 +2,7 @@
 //!
 //! A `Line` keeps a starting position and the legal moves made from it. Contracts see just these (`Line` of the definitions in
 //! `chess_types/specs/board/Lines.antt`), how many of its last moves are only looked at, the words of the key table, the ticks
-//! of the last move and the room that is reserved.
+//! of the last move and the room that is reserved. `make_room` is how its list grows, and those of trees.
 #![tactic(auto)]
 
 mod dead;
@@ -13,6 +13,7 @@ mod look_back;
 mod men;
 mod ply;
 mod repetition_key;
+mod room;
 mod status;
 mod step;
 mod target;
@@ -22,3 +23,4 @@ pub use dead::cannot_mate;
 pub use fault::LineFault;
 pub use laws::identity_laws;
 pub use line::{Line, LineWith, PlainLine};
+pub use room::make_room;

@@ -22,8 +22,9 @@ ghost use Rattle.chess_draws.specs.Pushes.{AnswersPush, AnswersRoom, line_after,
 
 use crate::fault::LineFault;
 use crate::look_back::look_back;
-use crate::ply::{Ply, make_room};
+use crate::ply::Ply;
 use crate::repetition_key::RepetitionKey;
+use crate::room::make_room;
 use crate::status::{claims_at, is_drawn_at, status_at};
 use crate::step::{step, step_back};
 use crate::target::{begin, target_at_start};
@@ -119,7 +120,7 @@ impl<F: Follower, A: Allocator> LineWith<F, A> {
         ensures at_least { IfSome result (λ _. F.suffices (last self.old.line).placement (last self.new.line).placement self.new.ticks) }
     {
         let ply = self.plies.pop()?;
-        let m = ply.past.played();
+        let m = ply.played();
         step_back(&mut self.live, &mut self.here, ply);
         Some(m)
     }
@@ -191,7 +192,7 @@ impl<F: Follower, A: Allocator> LineWith<F, A> {
         if self.plies() >= LIMIT {
             return Err(LineFault::TooLong);
         }
-        if make_room(&mut self.plies).is_err() {
+        if make_room(&mut self.plies, 8).is_err() {
             return Err(LineFault::Memory);
         }
         Ok(())
@@ -309,7 +310,7 @@ impl<F: Follower, A: Allocator> LineWith<F, A> {
         ensures value { result ≡ slice_get self.now.line.moves ply }
     {
         let made = self.plies.get(ply as usize)?;
-        Some(made.past.played())
+        Some(made.played())
     }
 
     /// The position in which the line begins. Each move is legal where it is made.

@@ -4,7 +4,7 @@ ghost use Rattle.std.specs.Prelude.{◌≡◌, ℕ, ◌+◌, ◌-◌, ◌*◌, �
 ghost use Rattle.chess_types.specs.board.Position.{PositionParts};
 ghost use Rattle.chess_types.specs.board.Lines.{play};
 ghost use Rattle.chess_types.specs.board.Repetition.{is_same};
-ghost use Rattle.chess_draws.specs.declared.ply.Ply.{Ply};
+ghost use Rattle.chess_draws.specs.steps.KeptPlies.{PlyParts};
 ghost use Rattle.chess_draws.specs.declared.repetition_key.RepetitionKey.{RepetitionKey};
 ghost use Rattle.chess_draws.specs.steps.RepetitionKeys.{same_moves};
 ghost use Rattle.chess_draws.specs.steps.Plies.{move_of};
@@ -31,12 +31,12 @@ pub(crate) struct Behind {
 #[inline(always)]
 fn move_at(plies: &[Ply], looked: &[Ply], at: usize) -> Move
     requires { at < length plies.now + length looked.now }
-    ensures { (other : Ply) → result ≡ move_of (get_or (plies.now ++ looked.now) at other) }
+    ensures { (other : PlyParts) → result ≡ move_of (get_or (plies.now ++ looked.now) at other) }
 {
     if at < plies.len() {
-        plies[at].past.played()
+        plies[at].played()
     } else {
-        looked[at - plies.len()].past.played()
+        looked[at - plies.len()].played()
     }
 }
 
@@ -44,7 +44,7 @@ fn move_at(plies: &[Ply], looked: &[Ply], at: usize) -> Move
 #[inline(always)]
 fn agrees_at(plies: &[Ply], looked: &[Ply], at: usize, here: &RepetitionKey) -> bool
     requires { at < length plies.now + length looked.now }
-    ensures { (other : Ply) → result ≡ same_moves here.now (get_or (plies.now ++ looked.now) at other) }
+    ensures { (other : PlyParts) → result ≡ same_moves here.now (get_or (plies.now ++ looked.now) at other) }
 {
     if at < plies.len() {
         here.agrees(&plies[at])

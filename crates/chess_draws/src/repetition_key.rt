@@ -58,6 +58,6 @@ impl RepetitionKey {
     pub(crate) fn agrees(&self, ply: &Ply) -> bool
         ensures { result ≡ same_moves self.now ply.now }
     {
-        same_rights(self.rights, ply.past.rights()) && same_target(self.target, ply.target)
+        same_rights(self.rights, ply.rights()) && same_target(self.target, ply.target())
     }
 }

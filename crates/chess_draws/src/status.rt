@@ -10,7 +10,7 @@ use chess_moves::{has_legal, in_check};
 use chess_play::LiveWith;
 use chess_types::{Claims, Setup, Status};
 
-/// How a line stands that has come to its last position so often (FIDE Laws 5.1.1, 5.2.1, 5.2.2, 9.6). The position is as before.
+/// The status of a line that has come to its last position `count` times (FIDE Laws 5.1.1, 5.2.1, 5.2.2, 9.6). The position is as before.
 #[tactic(auto, using(chess_moves::proofs::SetCounts::some_move), unfolding(chess_types::specs::board::Outcome::status_at))]
 pub(crate) fn status_at<F: Follower>(live: &mut LiveWith<F>, count: u32) -> Status
     requires clock { live.old.position.clock ≤ 1000000 }
@@ -47,7 +47,7 @@ pub(crate) fn claims_at(status: Status, count: u32, clock: u32) -> Claims
     }
 }
 
-/// Whether a position in which there is a legal move is a draw, where it has come so often; with `claims`, also where a draw could be
+/// Whether a position in which there is a legal move is a draw, where it has come `count` times; with `claims`, also where a draw could be
 /// claimed there.
 pub(crate) fn is_drawn_at(setup: &Setup, count: u32, claims: bool) -> bool
     ensures { result ≡ (is_drawn_at setup.now count || (claims && is_claimable_at setup.now count)) }

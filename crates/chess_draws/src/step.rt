@@ -30,11 +30,9 @@ pub(crate) fn step<F: Follower>(live: &mut LiveWith<F>, here: &mut RepetitionKey
     ensures at_most { live.new.ticks ≤ 216 }
     ensures at_least { F.suffices live.old.position.placement live.new.position.placement live.new.ticks }
 {
+    let counts = here.target.is_some();
     let (past, target) = advance(live, m);
-    let ply = Ply {
-        target: here.target,
-        past,
-    };
+    let ply = Ply::of(past, counts);
     *here = RepetitionKey::of(live, target);
     ply
 }
@@ -48,6 +46,6 @@ pub(crate) fn step_back<F: Follower>(live: &mut LiveWith<F>, here: &mut Repetiti
     ensures at_most { live.new.ticks ≤ 216 }
     ensures at_least { F.suffices live.old.position.placement live.new.position.placement live.new.ticks }
 {
-    live.take_back(ply.past);
-    *here = RepetitionKey::of(live, ply.target);
+    live.take_back(ply.past());
+    *here = RepetitionKey::of(live, ply.target());
 }

@@ -45,11 +45,11 @@ fn push_cell(text: &mut ArrayString<128>, run: u8, cell: Content) -> u8
     ensures len { array_string_len text.new + result ≤ array_string_len text.old + run + 1 }
     ensures grows { result ≤ run + 1 }
 {
-    match cell.man() {
+    match cell.letter() {
         None => run + 1,
-        Some(man) => {
+        Some(letter) => {
             push_run(text, run);
-            push_ascii(text, man.letter());
+            push_ascii(text, letter);
             0
         }
     }

@@ -7,7 +7,7 @@ use Rattle.chess_items.specs.Coming.{AtHand}
 use Rattle.chess_items.specs.declared.fault.FaultKind.TheVariants as lacks
 use Rattle.chess_items.specs.declared.fault.PgnFault.{PgnFault}
 use Rattle.chess_pgn.specs.Games.{Game}
-use Rattle.chess_pgn.specs.Sources.{Fails, Games, GivesUp, GoesOn, HasFault, HasGame, HasNone, Leaves, NextGame}
+use Rattle.chess_pgn.specs.Sources.{Fails, Games, HasFault, HasGame, HasNone, IsGivenUp, Leaves, MayGoOn, NextGame}
 use Rattle.chess_pgn.specs.declared.game.Game.{Game as Code}
 use Rattle.chess_pgn.specs.steps.GameCode.{game_of}
 use Rattle.chess_pgn.specs.declared.games.GamesFault.{GamesFault}
@@ -16,11 +16,11 @@ use Rattle.chess_command_line.specs.declared.collection.Failure.{Failure}
 use Rattle.chess_command_line.specs.declared.collection.Failure.TheVariants as by
 use Rattle.chess_games.specs.declared.form.Form.{Form}
 use Rattle.chess_games.specs.Forms.{text_in}
-use Rattle.chess_games.specs.Filtered.{Entry, Good, Bad, Goes, good_text, bad_count, IsFilteredInPart, IsFresh, IsGoneOver, IsFiltered, IsLeftOff, IsUnwritten, NoNext, Stops, most_games}
+use Rattle.chess_games.specs.Filtered.{FilteredEntry, Good, Bad, Goes, good_text, bad_count, IsFilteredInPart, IsFresh, IsGoneOver, IsFiltered, IsLeftOff, IsUnwritten, NoNext, Stops, most_games}
 use Rattle.chess_games.specs.steps.Leaving.{IsFor, NotPassed}
 use Rattle.chess_games.specs.Parts.{Part, is_in}
 
-good_text-append : (form : Form) (part : Part) (before : ℕ) (entries : List Entry) (entry : Entry) → good_text form part before (entries ++ entry ∷ []) ≡ good_text form part before entries ++ good_text form part (before + length entries) (entry ∷ [])
+good_text-append : (form : Form) (part : Part) (before : ℕ) (entries : List FilteredEntry) (entry : FilteredEntry) → good_text form part before (entries ++ entry ∷ []) ≡ good_text form part before entries ++ good_text form part (before + length entries) (entry ∷ [])
 good_text-append form part before [] entry = ap (λ (n : ℕ). good_text form part n (entry ∷ [])) (omega arith)
 good_text-append form part before (Good game ∷ entries) entry =
     let first = if is_in part before then text_in form before game else [] in
@@ -33,9 +33,9 @@ good_text-append form part before (Bad fault ∷ entries) entry =
     let place : (before + 1) + length entries ≡ before + length (Bad fault ∷ entries) = omega arith in
     rest ∙ ap (λ (n : ℕ). good_text form part (before + 1) entries ++ good_text form part n (entry ∷ [])) place
 
-bad_count-append : (part : Part) (before : ℕ) (entries : List Entry) (entry : Entry) → bad_count part before (entries ++ entry ∷ []) ≡ bad_count part before entries + bad_count part (before + length entries) (entry ∷ [])
+bad_count-append : (part : Part) (before : ℕ) (entries : List FilteredEntry) (entry : FilteredEntry) → bad_count part before (entries ++ entry ∷ []) ≡ bad_count part before entries + bad_count part (before + length entries) (entry ∷ [])
 bad_count-append part before [] entry =
-    let place : before ≡ before + length {A = Entry} [] = omega arith in
+    let place : before ≡ before + length {A = FilteredEntry} [] = omega arith in
     omega (arith, ap (λ (n : ℕ). bad_count part n (entry ∷ [])) place)
 bad_count-append part before (Good game ∷ entries) entry =
     let rest = bad_count-append part (before + 1) entries entry in
@@ -48,12 +48,12 @@ bad_count-append part before (Bad fault ∷ entries) entry =
     omega (arith, whole)
 
 -- of a whole collection
-good_text-more : (form : Form) (part : Part) (entries : List Entry) (entry : Entry) → good_text form part 0 (entries ++ entry ∷ []) ≡ good_text form part 0 entries ++ good_text form part (length entries) (entry ∷ [])
+good_text-more : (form : Form) (part : Part) (entries : List FilteredEntry) (entry : FilteredEntry) → good_text form part 0 (entries ++ entry ∷ []) ≡ good_text form part 0 entries ++ good_text form part (length entries) (entry ∷ [])
 good_text-more form part entries entry =
     let place : 0 + length entries ≡ length entries = omega arith in
     good_text-append form part 0 entries entry ∙ ap (λ (n : ℕ). good_text form part 0 entries ++ good_text form part n (entry ∷ [])) place
 
-bad_count-more : (part : Part) (entries : List Entry) (entry : Entry) → bad_count part 0 (entries ++ entry ∷ []) ≡ bad_count part 0 entries + bad_count part (length entries) (entry ∷ [])
+bad_count-more : (part : Part) (entries : List FilteredEntry) (entry : FilteredEntry) → bad_count part 0 (entries ++ entry ∷ []) ≡ bad_count part 0 entries + bad_count part (length entries) (entry ∷ [])
 bad_count-more part entries entry =
     let place : 0 + length entries ≡ length entries = omega arith in
     bad_count-append part 0 entries entry ∙ ap (λ (n : ℕ). bad_count part 0 entries + bad_count part n (entry ∷ [])) place
@@ -63,14 +63,14 @@ length-more [] x = refl
 length-more (y ∷ xs) x = omega (arith, length-more xs x)
 
 module _ {R : Type 0} (gives : R → List ℕ → R → Type 0) (failed : R → Bool) (ended : R → Type 0) where
-  goes_good : (s m n : AtHand R) (entries : List Entry) (game : Game) → Goes gives failed ended s entries m → HasGame gives failed m n game → Goes gives failed ended s (entries ++ Good game ∷ []) n
+  goes_good : (s m n : AtHand R) (entries : List FilteredEntry) (game : Game) → Goes gives failed ended s entries m → HasGame gives failed m n game → Goes gives failed ended s (entries ++ Good game ∷ []) n
   goes_good s m n [] game g h = (n, subst (λ (x : AtHand R). HasGame gives failed x n game) (sym g) h, refl)
   goes_good s m n (Good other ∷ entries) game g h = (g.0, g.1, goes_good g.0 m n entries game g.2 h)
   goes_good s m n (Bad fault ∷ entries) game g h = (g.0, g.1, g.2, g.3, g.4, goes_good g.1 m n entries game g.5 h)
 
-  goes_bad : (s m f n : AtHand R) (entries : List Entry) (fault : PgnFault) → Goes gives failed ended s entries m → fault.kind ≢ lacks.Memory → Fails gives failed ended m f → GivesUp gives failed m n
+  goes_bad : (s m f n : AtHand R) (entries : List FilteredEntry) (fault : PgnFault) → Goes gives failed ended s entries m → fault.kind ≢ lacks.Memory → Fails gives failed ended m f → IsGivenUp gives failed m n
       → Goes gives failed ended s (entries ++ Bad fault ∷ []) n
-  goes_bad s m f n [] fault g k h p = (f, n, k, subst (λ (x : AtHand R). Fails gives failed ended x f) (sym g) h, subst (λ (x : AtHand R). GivesUp gives failed x n) (sym g) p, refl)
+  goes_bad s m f n [] fault g k h p = (f, n, k, subst (λ (x : AtHand R). Fails gives failed ended x f) (sym g) h, subst (λ (x : AtHand R). IsGivenUp gives failed x n) (sym g) p, refl)
   goes_bad s m f n (Good other ∷ entries) fault g k h p = (g.0, g.1, goes_bad g.0 m f n entries fault g.2 k h p)
   goes_bad s m f n (Bad other ∷ entries) fault g k h p = (g.0, g.1, g.2, g.3, g.4, goes_bad g.1 m f n entries fault g.5 k h p)
 
@@ -96,7 +96,7 @@ module _ {R : Type 0} (gives : R → List ℕ → R → Type 0) (failed : R → 
 
 -- what is read and written so far
 pub record SoFar {R W : Type 0} (gives : R → List ℕ → R → Type 0) (failed : R → Bool) (ended : R → Type 0) (takes : W → List ℕ → W → Type 0) (write_failed : W → Bool) (form : Form) (part : Part) (source now : AtHand R) (old new : W) (bad before : ℕ) : Type 0 where
-  pub entries : List Entry
+  pub entries : List FilteredEntry
   pub goes : Goes gives failed ended source entries now
   pub writes : Carries takes old (good_text form part 0 entries) new
   pub well : write_failed new ≡ write_failed old
@@ -125,7 +125,7 @@ module _ {R W : Type 0} (gives : R → List ℕ → R → Type 0) (failed : R �
   }
 
   pub one_bad : (s m f n : AtHand R) (old mid : W) (bad more before : ℕ) (fault : PgnFault) → SoFar gives failed ended takes write_failed form part s m old mid bad before → HasFault gives failed ended m f (Pgn fault) → fault.kind ≢ lacks.Memory
-      → GivesUp gives failed m n → more ≡ (if is_in part before then 1 else 0) → more ≤ 1 → SoFar gives failed ended takes write_failed form part s n old mid (bad + more) (before + 1)
+      → IsGivenUp gives failed m n → more ≡ (if is_in part before then 1 else 0) → more ≤ 1 → SoFar gives failed ended takes write_failed form part s n old mid (bad + more) (before + 1)
   one_bad s m f n old mid bad more before fault g h k p counts one = record {
     entries = g.entries ++ Bad fault ∷ [];
     goes = goes_bad gives failed ended s m f n g.entries fault g.goes k (fails_there gives failed ended m f fault h k) p;
@@ -194,19 +194,19 @@ pub if_ok : {A E : Type 0} (P : Type 0) (result : Result A E) (x : A) → result
 if_ok P result x is h = subst (λ r. IfOk r (λ y. P)) is h
 
 -- a game that can't be read was read so far, and what is kept is its fault
-pub left_off : {R X : Type 0} (gives : R → List ℕ → R → Type 0) (failed : R → Bool) (old new : Games R) (result : Result X GamesFault) (fault : GamesFault) → result ≡ Err fault → IfErr result (λ f. new.fault ≡ Some f) → GoesOn new.fault
-    → IfErr result (λ f. GoesOn (Some f) → Leaves gives failed old.text new.text new.halt) → (new.fault ≡ Some fault) × Leaves gives failed old.text new.text new.halt
+pub left_off : {R X : Type 0} (gives : R → List ℕ → R → Type 0) (failed : R → Bool) (old new : Games R) (result : Result X GamesFault) (fault : GamesFault) → result ≡ Err fault → IfErr result (λ f. new.fault ≡ Some f) → MayGoOn new.fault
+    → IfErr result (λ f. MayGoOn (Some f) → Leaves gives failed old.text new.text new.halt) → (new.fault ≡ Some fault) × Leaves gives failed old.text new.text new.halt
 left_off gives failed old new result fault is stays on leaves =
     let here = subst (λ r. IfErr r (λ f. new.fault ≡ Some f)) is stays in
-    (here, (subst (λ r. IfErr r (λ f. GoesOn (Some f) → Leaves gives failed old.text new.text new.halt)) is leaves) (subst (λ (f : Option GamesFault). GoesOn f) here on))
+    (here, (subst (λ r. IfErr r (λ f. MayGoOn (Some f) → Leaves gives failed old.text new.text new.halt)) is leaves) (subst (λ (f : Option GamesFault). MayGoOn f) here on))
 
 -- and that isn't want of memory
-pub not_memory : (kept : Option GamesFault) (found : GamesFault) (fault : PgnFault) → kept ≡ Some found → found ≡ Pgn fault → GoesOn kept → fault.kind ≢ lacks.Memory
-not_memory kept found fault e is on = subst (λ (f : GamesFault). GoesOn (Some f)) is (subst (λ (f : Option GamesFault). GoesOn f) e on)
+pub not_memory : (kept : Option GamesFault) (found : GamesFault) (fault : PgnFault) → kept ≡ Some found → found ≡ Pgn fault → MayGoOn kept → fault.kind ≢ lacks.Memory
+not_memory kept found fault e is on = subst (λ (f : GamesFault). MayGoOn (Some f)) is (subst (λ (f : Option GamesFault). MayGoOn f) e on)
 
 -- where no fault came, reading goes on
-pub still_on : (fault : Option GamesFault) → fault ≡ None → GoesOn fault
-still_on fault e = subst (λ (f : Option GamesFault). GoesOn f) (sym e) tt
+pub still_on : (fault : Option GamesFault) → fault ≡ None → MayGoOn fault
+still_on fault e = subst (λ (f : Option GamesFault). MayGoOn f) (sym e) tt
 
 -- from the beginning of a source
 pub from_fresh : {R W E : Type 0} (gives : R → List ℕ → R → Type 0) (failed : R → Bool) (ended : R → Type 0) (takes : W → List ℕ → W → Type 0) (write_failed : W → Bool) (form : Form) (part : Part) (source : R) (text : AtHand R) (old new : W) (result : Result ℕ E) → IsFresh source text

@@ -1,7 +1,7 @@
 -- What is read of a collection, and written of it.
---   Entry       a game that was read, or the fault of one that can't be read
+--   FilteredEntry  a game that was read, or the fault of one that can't be read
 --   Goes        games are read one after another: one that can't be read, not for want of memory, is given up, from its first byte to where its text says that the next begins
---   good_text   what is written of the good games of a part, in order, after so many games
+--   good_text   what is written of the good games of a part, in order, after `before` games
 --   bad_count   how many games of a part can't be read
 --   IsFresh     nothing of a source is read
 --   IsGoneOver  it is read so to its end, which the source has come to; the good games of the part are written, and nothing else; this many of the part can't be
@@ -10,7 +10,7 @@
 --   IsUnwritten  a text isn't written whole: a write failed or took no byte, and was the last, after a prefix; or there was no memory, and nothing of it is
 --   NoNext      there is no way to the next game: a read failed, or there may be no more, or there was no memory, for the game or, where it can't be
 --               read, to give it up; no read was made that wasn't needed
---   Stops       after so many games there is no way to the next; or it is a good one of the part that isn't written whole; or there were 2^57
+--   Stops       after `count` games there is no way to the next; or it is a good one of the part that isn't written whole; or there were 2^57
 --   IsLeftOff   games are read so up to there, and the good games of the part are written, and then it stops; nothing else is written
 --   IsFilteredInPart  so it is from the source's beginning
 use Rattle.std.specs.Prelude.{◌≡◌, ◌≢◌, ◌⊎◌, ℕ, ◌+◌, Bool, true, false, if◌then◌else◌, List, [], ◌∷◌, ◌++◌, length}
@@ -21,30 +21,30 @@ use Rattle.chess_items.specs.declared.fault.FaultKind.TheVariants as lacks
 use Rattle.chess_items.specs.declared.fault.PgnFault.{PgnFault}
 use Rattle.chess_loop.specs.RunEnds.{Broken}
 use Rattle.chess_pgn.specs.Games.{Game}
-use Rattle.chess_pgn.specs.Sources.{Fails, GivesUp, HasGame, HasNone, ReadFails, Starves}
+use Rattle.chess_pgn.specs.Sources.{Fails, HasGame, HasNone, IsGivenUp, ReadFails, Starves}
 use Rattle.chess_command_line.specs.declared.collection.Failure.{Failure}
 use Rattle.chess_command_line.specs.declared.collection.Failure.TheVariants as by
 use Rattle.chess_games.specs.declared.form.Form.{Form}
 use Rattle.chess_games.specs.Forms.{text_in}
 use Rattle.chess_games.specs.Parts.{Part, is_in}
 
-pub data Entry : Type 0 where
-  Good : Game → Entry
-  Bad : PgnFault → Entry
+pub data FilteredEntry : Type 0 where
+  Good : Game → FilteredEntry
+  Bad : PgnFault → FilteredEntry
 
 module _ {R : Type 0} (gives : R → List ℕ → R → Type 0) (failed : R → Bool) (ended : R → Type 0) where
-  abbrev pub Goes : AtHand R → List Entry → AtHand R → Type 0
+  abbrev pub Goes : AtHand R → List FilteredEntry → AtHand R → Type 0
   Goes old [] new = old ≡ new
   Goes old (Good game ∷ entries) new = (mid : AtHand R) × HasGame gives failed old mid game × Goes mid entries new
   Goes old (Bad fault ∷ entries) new =
-      (there : AtHand R) × (mid : AtHand R) × (fault.kind ≢ lacks.Memory) × Fails gives failed ended old there × GivesUp gives failed old mid × Goes mid entries new
+      (there : AtHand R) × (mid : AtHand R) × (fault.kind ≢ lacks.Memory) × Fails gives failed ended old there × IsGivenUp gives failed old mid × Goes mid entries new
 
-abbrev pub good_text : Form → Part → ℕ → List Entry → List ℕ
+abbrev pub good_text : Form → Part → ℕ → List FilteredEntry → List ℕ
 good_text form part before [] = []
 good_text form part before (Good game ∷ entries) = (if is_in part before then text_in form before game else []) ++ good_text form part (before + 1) entries
 good_text form part before (Bad fault ∷ entries) = good_text form part (before + 1) entries
 
-abbrev pub bad_count : Part → ℕ → List Entry → ℕ
+abbrev pub bad_count : Part → ℕ → List FilteredEntry → ℕ
 bad_count part before [] = 0
 bad_count part before (Good game ∷ entries) = bad_count part (before + 1) entries
 bad_count part before (Bad fault ∷ entries) = (if is_in part before then 1 else 0) + bad_count part (before + 1) entries
@@ -58,7 +58,7 @@ pub record IsFresh {R : Type 0} (source : R) (text : AtHand R) : Type 0 where
   pub used : text.used ≡ 0
 
 pub record IsGoneOver {R W : Type 0} (gives : R → List ℕ → R → Type 0) (failed : R → Bool) (ended : R → Type 0) (takes : W → List ℕ → W → Type 0) (write_failed : W → Bool) (form : Form) (part : Part) (text : AtHand R) (old new : W) (bad : ℕ) : Type 0 where
-  pub entries : List Entry
+  pub entries : List FilteredEntry
   pub there : AtHand R
   pub goes : Goes gives failed ended text entries there
   pub left : AtHand R
@@ -98,7 +98,7 @@ module _ {R : Type 0} (gives : R → List ℕ → R → Type 0) (failed : R → 
         ⊎ ((count ≡ most_games) × (failure ≡ by.Read) × (new ≡ mid))
 
     pub record IsLeftOff (text : AtHand R) (old new : W) (failure : Failure) : Type 0 where
-      pub entries : List Entry
+      pub entries : List FilteredEntry
       pub there : AtHand R
       pub goes : Goes gives failed ended text entries there
       pub mid : W

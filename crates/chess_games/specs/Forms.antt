@@ -1,7 +1,7 @@
 -- How good games are written.
---   head_in   what stands before all games: in rows of comma-separated values a row of the columns' names
---   text_in   what is written of a game after so many others: its export form, or a row for each ply of its main line, with the game's number from 1
---   IsHeaded  what stands before all games is written, and then it goes on so
+--   head_in   what comes before all games: in rows of comma-separated values a row of the columns' names
+--   text_in   what is written of a game after `before` others: its export form, or a row for each ply of its main line, with the game's number from 1
+--   IsHeaded  what comes before all games is written, and then it goes on so
 use Rattle.std.specs.Prelude.{◌≡◌, ℕ, ◌+◌, Bool, List, []}
 use Rattle.byte_streams.specs.Calls.{Carries}
 use Rattle.chess_pgn.specs.Games.{Game}

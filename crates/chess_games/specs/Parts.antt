@@ -3,7 +3,7 @@
 --   IsWhole   all games
 --   IsNumber  a text is decimal digits, after which a plus may come first, and they write that number from 1, less than 2^64
 --   IsPart    a text is K/N, both numbers, K at most N: every N-th game, from game K
---   is_in     the game after so many others is in the part: their number and K - 1 leave the same when divided by N
+--   is_in     the game after `before` others is in the part: their number and K - 1 leave the same when divided by N
 use Rattle.std.specs.Prelude.{◌≡◌, ℕ, ◌-◌, ◌%◌, ◌^◌, ◌<◌, ◌≤◌, Bool, ◌==◌, List, length}
 use Rattle.std.specs.List.{position_or_len, before_first, after_first}
 use Rattle.std.specs.Str.{byte}

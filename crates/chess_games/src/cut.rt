@@ -66,11 +66,11 @@ struct Borders {
     zone: Zone,
     /// The last bytes of the word that the last byte belongs to; zero where that is of no word.
     word: u64,
-    /// How many line feeds there were since the last byte that is not white space, at most 255.
+    /// How many line feeds there were since the last byte that is not whitespace, at most 255.
     feeds: u8,
-    /// Whether the next byte is first on its line but for white space; a byte order mark begins a line, too.
+    /// Whether the next byte is first on its line but for whitespace; a byte order mark begins a line, too.
     is_first: bool,
-    /// Whether the last item but white space is the marker of a game's end.
+    /// Whether the last item but whitespace is the marker of a game's end.
     has_ended: bool,
     /// Whether a section of tags may begin in a comment, a hidden line or a value: a reader that passes over a bad game would begin there, and another would not.
     is_lost: bool,
@@ -78,7 +78,7 @@ struct Borders {
     since: u64,
 }
 
-// White space (PGN 7).
+// Whitespace (PGN 7).
 fn is_blank(b: u8) -> bool {
     matches!(b, 9..=13 | b' ')
 }
@@ -216,7 +216,7 @@ impl Borders {
         }
     }
 
-    // The first of the next bytes, at least one. Whether a game surely begins with it, at least so many bytes after the last border.
+    // The first of the next bytes, at least one. Whether a game surely begins with it, at least `least` bytes after the last border.
     fn take_next(&mut self, next: &[u8], least: u64) -> bool
         requires { 0 < length next.now }
         ensures { result ≡ true → OpensTag next.now }
@@ -282,7 +282,7 @@ fn put_piece<W: Sink>(
     Ok(())
 }
 
-// The contract says no more, since a list of so many zeros would be written out in each goal.
+// The contract says no more, since a list of `PIECE` zeros would be written out in each goal.
 fn zeros<A: Allocator>(alloc: A) -> Result<Vec<u8, A>, AllocError>
     ensures { IfOk result (λ zeros. 0 < vec_len zeros) }
 {
@@ -290,7 +290,7 @@ fn zeros<A: Allocator>(alloc: A) -> Result<Vec<u8, A>, AllocError>
 }
 
 /// Copies the reader's bytes to the writer, with a zero byte where a game surely begins: before a section of tags (PGN 8.1) after an empty line
-/// and a marker of a game's end, at least so many bytes after the last. Whoever reads the pieces one by one reads the games that are read of
+/// and a marker of a game's end, at least `least` bytes after the last. Whoever reads the pieces one by one reads the games that are read of
 /// the whole, good and bad, whatever their moves. Where a section may begin in a comment, a hidden line or a value, the rest is one
 /// piece, since a reader begins there only after a bad game.
 ///

@@ -3,7 +3,7 @@
 ghost use Rattle.std.specs.Prelude.{◌≡◌, ◌≤◌, ◌<◌, ◌⊎◌, if◌then◌else◌, [], true, false, None, Some, IfErr, IfOk, OnOk};
 ghost use Rattle.byte_streams.specs.Calls.{Carries};
 ghost use Rattle.chess_items.specs.Coming.{AtHand};
-ghost use Rattle.chess_pgn.specs.Sources.{GivesUp, GoesOn, IsSound, Leaves};
+ghost use Rattle.chess_pgn.specs.Sources.{IsGivenUp, IsSound, Leaves, MayGoOn};
 ghost use Rattle.chess_pgn.specs.declared.games.GamesFault.{GamesFault};
 ghost use Rattle.chess_pgn.specs.declared.games.GamesFault.TheVariants.{Pgn};
 ghost use Rattle.chess_pgn.specs.steps.GameCode.{game_of};
@@ -85,7 +85,7 @@ fn report_totals(rt: &HostRuntime, games: u64, bytes: u64, passed: u64) {
     let _ = eprintln!(rt; "games {games}, bytes {bytes}, passed over {passed}");
 }
 
-// The same of the game after so many others, if it is asked for; how many lines that were.
+// The same of the game after `before` others, if it is asked for; how many lines that were.
 fn report_if(rt: &HostRuntime, is_asked: bool, before: u64, fault: PgnFault) -> u64
     ensures count { result ≡ (if is_asked then 1 else 0) }
     ensures one { result ≤ 1 }
@@ -100,7 +100,7 @@ fn report_if(rt: &HostRuntime, is_asked: bool, before: u64, fault: PgnFault) -> 
 // The fault of a game that can be passed over; else why reading ends with it.
 fn passable(fault: GamesFault) -> Result<PgnFault, Failure>
     ensures fault { IfOk result (λ found. fault ≡ Pgn found) }
-    ensures goes_on { OnOk result (GoesOn (Some fault)) }
+    ensures goes_on { OnOk result (MayGoOn (Some fault)) }
     ensures failure { IfErr result (λ failure. IsFor failure fault) }
 {
     match fault {
@@ -117,9 +117,9 @@ fn pass<'a, A: Allocator, R: Source>(games: &mut Games<'a, R, A>) -> Result<(), 
     requires sound { IsSound R.ended games.old }
     ensures sound { IsSound R.ended games.new }
     ensures good { OnOk result (games.new.fault ≡ None) }
-    ensures goes_on { OnOk result (GoesOn games.old.fault) }
-    ensures gives_up { (fault : GamesFault) (before : AtHand R) → games.old.fault ≡ Some fault → Leaves R.gives R.failed before games.old.text games.old.halt → OnOk result (GivesUp R.gives R.failed before games.new.text) }
-    ensures in_part { (fault : GamesFault) (before : AtHand R) → games.old.fault ≡ Some fault → GoesOn (Some fault) → Leaves R.gives R.failed before games.old.text games.old.halt → IfErr result (λ failure. NotPassed R.gives R.failed before games.new.text failure) }
+    ensures goes_on { OnOk result (MayGoOn games.old.fault) }
+    ensures gives_up { (fault : GamesFault) (before : AtHand R) → games.old.fault ≡ Some fault → Leaves R.gives R.failed before games.old.text games.old.halt → OnOk result (IsGivenUp R.gives R.failed before games.new.text) }
+    ensures in_part { (fault : GamesFault) (before : AtHand R) → games.old.fault ≡ Some fault → MayGoOn (Some fault) → Leaves R.gives R.failed before games.old.text games.old.halt → IfErr result (λ failure. NotPassed R.gives R.failed before games.new.text failure) }
 {
     match games.pass_over() {
         Ok(_count) => Ok(()),

@@ -28,7 +28,7 @@ impl Form {
         }
     }
 
-    /// What is written of the game after so many others.
+    /// What is written of the game after `before` others.
     pub fn text<'a, A: Allocator>(
         &self,
         alloc: &'a A,

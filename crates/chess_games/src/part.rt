@@ -65,7 +65,7 @@ impl Part {
         Some(Part { first, step })
     }
 
-    /// Whether the game after so many others is in the part.
+    /// Whether the game after `before` others is in the part.
     pub fn has(self, before: u64) -> bool
         ensures { result ≡ is_in self before }
     {

@@ -30,7 +30,7 @@ fn report_repair(rt: &HostRuntime, number: u64, place: u64, name: &str) {
     let _ = eprintln!(rt; "game {number}: repaired {place} {name}");
 }
 
-// The same of all that was repaired in a game that begins after so many bytes.
+// The same of all that was repaired in a game that begins after `from` bytes.
 fn report_repairs<'a, A: Allocator>(
     rt: &HostRuntime,
     number: u64,
@@ -69,7 +69,7 @@ fn report_sums(rt: &HostRuntime, totals: &Totals) {
     );
 }
 
-// A fault with its place after so many bytes.
+// A fault with its place `from` bytes further on.
 fn placed(fault: PgnFault, from: u64) -> PgnFault {
     PgnFault {
         place: fault.place.saturating_add(from),
@@ -225,7 +225,7 @@ impl<'a> Saver<'a> {
         }
     }
 
-    // How many letters at these places are of the first bytes, so many; they are reported.
+    // How many letters at these places are of the first `used` bytes; they are reported.
     fn report_letters(&self, place: Place, places: &[usize], used: usize) -> u64 {
         let mut count = 0u64;
         for at in places {

@@ -21,7 +21,7 @@ pub enum Words {
         is_saving: bool,
         progress: bool,
     },
-    /// The input is cut into pieces of at least so many bytes.
+    /// The input is cut into pieces of at least the given number of bytes.
     Cut(u64),
 }
 

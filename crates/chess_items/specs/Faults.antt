@@ -16,8 +16,8 @@ number_and_name Memory = (8, codes "Memory")
 number_and_name TooLarge = (9, codes "TooLarge")
 
 -- a fault's number
-abbrev pub number_of : FaultKind → ℕ
-number_of fault = (number_and_name fault).0
+abbrev pub fault_number : FaultKind → ℕ
+fault_number fault = (number_and_name fault).0
 
 -- a fault's name
 abbrev pub name_of : FaultKind → List ℕ

@@ -1,6 +1,6 @@
 -- What a text in portable game notation is made of (PGN 7).
---   Item         a token, or what stands between tokens
---   may_stand    the items that may stand at a place: outside of tags, between the parts of a tag, or in its value
+--   Item         a token, or what comes between tokens
+--   may_stand    the items that may be at a place: outside of tags, between the parts of a tag, or in its value
 --   place_after  the place after an item
 --   place_behind the place after some items
 --   is_white     the items that make no game
@@ -19,7 +19,7 @@ use Rattle.chess_items.specs.declared.place.Place.TheVariants.{GameStart, LineSt
 pub data Item : Type 0 where
   -- the bytes EF BB BF, by which some programs mark a text as UTF-8
   Mark : Item
-  -- a byte of white space
+  -- a byte of whitespace
   Blank : ℕ → Item
   -- a % in the first column, and the line that it hides (PGN 6)
   Hidden : Item
@@ -107,7 +107,7 @@ word_item text =
     if list_all is_digit text then Skipped
     else (if bytes_eq text (outcome_text WhiteWins) then Marker WhiteWins else (if bytes_eq text (outcome_text BlackWins) then Marker BlackWins else (if bytes_eq text (outcome_text Draw) then Marker Draw else Word text)))
 
--- a byte of a comment after a ;, which might stand between braces
+-- a byte of a comment after a ;, as it is written between braces
 abbrev pub without_brace : ℕ → ℕ
 without_brace b = if b == byte "}" then byte ")" else b
 
@@ -156,7 +156,7 @@ may_stand place Quote = is_in_tag place || is_in_value place
 may_stand place (Stretch text) = is_in_value place
 may_stand place (Escaped b) = is_in_value place
 
--- after a byte of white space, outside of tags and between the parts of one
+-- after a byte of whitespace, outside of tags and between the parts of one
 abbrev pub place_after_blank : Bool → Bool → Place
 place_after_blank false true = LineStart
 place_after_blank false false = InLine
@@ -174,7 +174,7 @@ place_after place (Stretch text) = InValue
 place_after place (Escaped b) = InValue
 place_after place _ = InLine
 
--- white space, a mark and a hidden line, which make no game
+-- whitespace, a mark and a hidden line, which make no game
 abbrev pub is_white : Item → Bool
 is_white Mark = true
 is_white (Blank b) = true
@@ -203,7 +203,7 @@ pub record IsToLineEnd (line next : List ℕ) : Type 0 where
   pub each : Each in_line line
   pub stops : EndsRun in_line next
 
--- what a backslash stands before in a value
+-- what may follow a backslash in a value
 abbrev pub is_escapable : ℕ → Bool
 is_escapable b = b == byte "\"" || b == byte "\\"
 

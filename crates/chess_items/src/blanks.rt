@@ -1,4 +1,4 @@
-//! White space, marks and hidden lines, read on without being kept.
+//! Whitespace, marks and hidden lines, read on without being kept.
 
 ghost use Rattle.std.specs.Prelude.{◌≡◌, ℕ, List, ◌∷◌, IfErr};
 ghost use Rattle.chess_items.specs.Items.{Each, in_line};
@@ -14,10 +14,10 @@ use crate::taking::{Spot, Step, take_one};
 use crate::text::Text;
 use crate::token::Token;
 
-/// The bytes of a mark: no other item of white space has more, but for a hidden line.
+/// The bytes of a mark: no other item of whitespace has more, but for a hidden line.
 const MARK: usize = 3;
 
-// Takes white space, marks and hidden lines.
+// Takes whitespace, marks and hidden lines.
 #[derive(Clone, Copy)]
 struct Whites;
 
@@ -71,7 +71,7 @@ fn skip_line<X: Text>(text: &mut X) -> Result<(), Fault>
     }
 }
 
-/// Uses white space, marks and hidden lines from that place on, and keeps nothing of them. Whether the text ends after them.
+/// Uses whitespace, marks and hidden lines from that place on, and keeps nothing of them. Whether the text ends after them.
 pub fn skip_white<X: Text>(text: &mut X, place: Place) -> Result<bool, Fault>
     requires { X.sound text.old }
     ensures skips { Skips X.comes X.at_hand X.all X.sound X.reads place text.old text.new result }

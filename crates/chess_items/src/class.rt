@@ -46,7 +46,7 @@ static CLASSES: [u8; 256] = [
     112, 112, 112, 112, 112, 112, 112, 112, 112, 112, 112, 112, 112, 112, 112, 112,
 ];
 
-/// White space: from the horizontal tab to the carriage return, and the space.
+/// Whitespace: from the horizontal tab to the carriage return, and the space.
 #[tactic(auto, unfolding(crate::specs::Items::is_blank))]
 #[inline(always)]
 pub fn is_blank(b: u8) -> bool
@@ -55,14 +55,14 @@ pub fn is_blank(b: u8) -> bool
     matches!(b, 9..=13 | b' ')
 }
 
-/// What a backslash may stand before in a tag's value.
+/// What may follow a backslash in a tag's value.
 pub fn is_escapable(b: u8) -> bool
     ensures { result ≡ is_escapable b }
 {
     matches!(b, b'"' | b'\\')
 }
 
-// How many bytes stand before the first that is this one.
+// How many bytes come before the first that is this one.
 fn len_before(stop: u8, bytes: &[u8]) -> usize
     ensures run { result ≡ prefix_len (λ b. not (b == stop)) bytes.now }
     ensures within { result ≤ length bytes.now }

@@ -39,11 +39,11 @@ pub enum FaultKind {
 
 impl FaultKind {
     ghost use Rattle.std.specs.Prelude.{◌≡◌};
-    ghost use Rattle.chess_items.specs.Faults.{number_of, name_of};
+    ghost use Rattle.chess_items.specs.Faults.{fault_number, name_of};
 
     /// The kind's number, 1 to 9.
     pub fn number(self) -> u8
-        ensures { result ≡ number_of self }
+        ensures { result ≡ fault_number self }
     {
         self as u8
     }

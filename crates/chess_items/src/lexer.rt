@@ -1,4 +1,4 @@
-//! The first item of a text, by where in a game it stands.
+//! The first item of a text, by where in a game it is.
 
 ghost use Rattle.std.specs.Prelude.{◌≡◌, Some, bytes_eq};
 ghost use Rattle.std.specs.List.{list_all};
@@ -105,7 +105,7 @@ fn mark(rest: &[u8]) -> Option<(Token<'_>, &[u8])>
     }
 }
 
-// What begins with another byte than those of words, white space, ! and ?.
+// What begins with another byte than those of words, whitespace, ! and ?.
 #[tactic(auto, unfolding(crate::specs::steps::ItemAt::sign_at, crate::specs::steps::ItemAt::run_at))]
 #[inline(always)]
 fn sign(start: bool, b: u8, rest: &[u8]) -> Option<(Token<'_>, &[u8])>

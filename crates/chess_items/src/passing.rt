@@ -9,7 +9,7 @@ use crate::taker::Taker;
 use crate::taking::{Stop, Stopped, run};
 use crate::text::Text;
 
-/// Takes items as `run` does; white space, marks and hidden lines after the limit are passed over, to the last of them, where nothing else has
+/// Takes items as `run` does; whitespace, marks and hidden lines after the limit are passed over, to the last of them, where nothing else has
 /// come. `None` where nothing else comes at all.
 pub fn pass<X: Text, T: Taker>(
     text: &mut X,

@@ -1,6 +1,6 @@
-//! The places in a text by which its items are told apart.
+//! Where in a text an item is.
 
-/// Where in a text an item stands.
+/// The place of an item, on which it depends what the item may be.
 #[derive(Clone, Copy)]
 pub enum Place {
     /// Where the reading of a game begins.

@@ -44,7 +44,7 @@ pub struct Stopped {
     /// How many bytes are used.
     pub at: usize,
     pub place: Place,
-    /// Whether the items were but white space, marks and hidden lines.
+    /// Whether the items were but whitespace, marks and hidden lines.
     pub white: bool,
 }
 
@@ -56,7 +56,7 @@ pub enum Step {
     Stops(Stop),
 }
 
-/// Where the next item stands: its place, how many bytes are used before it, and how many it may have.
+/// Where the next item is: its place, how many bytes are used before it, and how many it may have.
 #[derive(Clone, Copy)]
 pub struct Spot {
     pub place: Place,
@@ -92,7 +92,7 @@ fn item_unlooked(place: Place, bytes: &[u8], looked: usize) -> Option<(Token<'_>
     item(place, bytes)
 }
 
-// Offers an item of so many bytes. A bracket is offered even after the limit, since it may be left.
+// Offers an item of `used` bytes. A bracket is offered even after the limit, since it may be left.
 #[inline(always)]
 fn offer<T: Taker>(taker: &mut T, spot: Spot, token: Token<'_>, used: usize) -> Step
     ensures { Offered T.takes spot.at spot.most spot.place (item_of token.entry) used taker.old taker.new result }
@@ -204,7 +204,7 @@ fn after_number(bytes: &[u8]) -> Option<usize>
     Some(rest.len())
 }
 
-// Takes an item within a line, after which so many bytes are left.
+// Takes an item within a line, after which `left` bytes are left.
 #[inline(always)]
 fn take_first<X: Text, T: Taker>(
     text: &mut X,

@@ -12,7 +12,7 @@ use crate::place::Place;
 pub enum Token<'t> {
     /// EF BB BF
     Mark,
-    /// A byte of white space.
+    /// A byte of whitespace.
     Blank(u8),
     /// A line that `%` hides.
     Hidden,
@@ -45,7 +45,7 @@ impl Token<'_> {
     ghost use Rattle.chess_items.specs.Items.{is_white};
     ghost use Rattle.chess_items.specs.steps.Tokens.{item_of};
 
-    /// Whether it is white space, a mark or a hidden line.
+    /// Whether it is whitespace, a mark or a hidden line.
     #[inline(always)]
     pub fn is_white(self) -> bool
         ensures { result ≡ is_white (item_of self.entry) }
@@ -55,7 +55,7 @@ impl Token<'_> {
 }
 
 impl Place {
-    /// The place after a token that stands here.
+    /// The place after a token that is here.
     #[inline(always)]
     pub fn after(self, token: Token<'_>) -> Place
         ensures { result ≡ place_after self (item_of token.entry) }

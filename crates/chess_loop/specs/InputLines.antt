@@ -13,7 +13,7 @@ line_limit = 1048576
 abbrev pub line_room : ℕ
 line_room = 65536
 
--- the lines that end in the bytes, where `begun` stands before them
+-- the lines that end in the bytes, where `begun` comes before them
 abbrev pub ended_lines : List ℕ → List ℕ → List (List ℕ)
 ended_lines begun [] = []
 ended_lines begun (b ∷ bs) = if b == 10 then begun ∷ ended_lines [] bs else ended_lines (begun ++ b ∷ []) bs

@@ -3,7 +3,7 @@
 --   Runs        these lines may be answered by this text
 --   InOne       a line may be answered by this text in one part
 --   Whole       a line may be answered by this text, in whatever parts
---   unwritten   how many bytes at the end may be unwritten after an answer, where so many were before it
+--   unwritten   how many bytes at the end may be unwritten after an answer, where `before` were before it
 --   Counted     a line may be answered by this text, with the numbers of bytes that may be unwritten before and after
 --   AnyRest     these lines may be answered by this text, and any rest of it may be unwritten
 --   Partly      these lines may be answered by this text, but that answering the last may have been broken off; this rest of the text may be unwritten

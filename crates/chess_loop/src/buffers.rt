@@ -4,7 +4,7 @@ ghost use Rattle.std.specs.Prelude.{◌≡◌, IfOk, vec_len};
 
 use std::alloc::{AllocError, Allocator};
 
-/// So many of this value. The contract says no more, since a long list of them would be written out in each goal.
+/// A list of this value, `len` times. The contract says no more, since a long list of them would be written out in each goal.
 pub fn filled<T: Copy, A: Allocator>(
     alloc: A,
     value: T,

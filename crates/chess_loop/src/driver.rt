@@ -144,8 +144,8 @@ fn answer_all<E: LineHandler, A: Allocator, R: Source, W: Sink>(
     RunEnd::ReadFault
 }
 
-/// Lets the handler answer the lines of the reader on the writer, until the input ends or the handler takes no more lines, with at most so
-/// many reads. `Memory` where there is none to begin with: then nothing was read or written.
+/// Lets the handler answer the lines of the reader on the writer, until the input ends or the handler takes no more lines, with at most
+/// `most` reads. `Memory` where there is none to begin with: then nothing was read or written.
 pub fn run<E: LineHandler, A: Allocator, R: Source, W: Sink>(
     alloc: &A,
     engine: &mut E,

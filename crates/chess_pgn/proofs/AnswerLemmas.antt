@@ -12,7 +12,7 @@ use Rattle.chess_items.proofs.LastLemmas.{CameWhere, came_where}
 use Rattle.chess_pgn.specs.Games as games
 use Rattle.chess_pgn.specs.Reading.{HasNoGame, HasNoGameYet, IsAnswered, BeginsWithGame, IsWhite}
 use Rattle.chess_items.specs.declared.skimming.Halt.{Halt}
-use Rattle.chess_pgn.specs.Sources.{EndsOpen, EndsWithin, GoesOn, HasFault, Leaves}
+use Rattle.chess_pgn.specs.Sources.{EndsOpen, EndsWithin, HasFault, Leaves, MayGoOn}
 use Rattle.chess_pgn.specs.steps.GameAt.{FoundGame, HaltsAt, HasStarved, IsFault, IsUnread, LeavesIn, NotCome}
 use Rattle.chess_pgn.specs.steps.GameCode.{game_of}
 use Rattle.chess_pgn.specs.steps.Next.{HasKind}
@@ -111,7 +111,7 @@ module _ {R : Type 0} (gives : R → List ℕ → R → Type 0) (failed : R → 
   left_there (Some halt) l = l
   left_there None f = f
 
-  pub source_leaves : (A : Type 0) (halt : Option Halt) (fault placed : GamesFault) → HaltsAt {A = A} (brings gives failed) unread (has_all gives failed) (reads_left gives failed) old new halt (Err fault) → HasKind fault placed → GoesOn (Some placed) → Leaves gives failed old new halt
+  pub source_leaves : (A : Type 0) (halt : Option Halt) (fault placed : GamesFault) → HaltsAt {A = A} (brings gives failed) unread (has_all gives failed) (reads_left gives failed) old new halt (Err fault) → HasKind fault placed → MayGoOn (Some placed) → Leaves gives failed old new halt
   source_leaves A halt (Pgn fault) (Pgn placed) (inl m) k on = absurd (on (k ∙ m))
   source_leaves A halt (Pgn fault) (Pgn placed) (inr l) k on = left_there halt l
   source_leaves A halt (Pgn fault) Read h k on = absurd k

@@ -5,7 +5,7 @@ use mathlib.Core.Logic.{inl, inr}
 use Rattle.std.specs.Prelude.{Result, Ok, Err, Option, Some, None, IfErr, IfOk, IfSome}
 use Rattle.byte_streams.specs.Calls.{Calls, joined}
 use Rattle.chess_items.specs.Items.{Item, Spells, is_white, place_after}
-use Rattle.chess_items.specs.Abandoned.{GivesUpFrom, GivesUpInPart as UsesInPart, Halts}
+use Rattle.chess_items.specs.Abandoned.{GivesUpFrom, GivesUpInPart, Halts}
 use Rattle.chess_items.specs.Coming.{AtHand, unread}
 use Rattle.chess_items.specs.Sections.{PassesOver}
 use Rattle.chess_items.specs.declared.at_hand.Fault.{Fault}
@@ -21,7 +21,7 @@ use Rattle.chess_items.proofs.LastLemmas.{came_where}
 use Rattle.chess_items.proofs.LocalLemmas.{text_shorter}
 use Rattle.chess_pgn.specs.Games as games
 use Rattle.chess_pgn.specs.Reading.{BeginsWithGame, HasNoGameYet, IsWhite}
-use Rattle.chess_pgn.specs.Sources.{Games, GivesUp, GivesUpInPart, GoesOn, HasFault, HasGame, HasNone, IsPlaced, IsSound, Leaves, NextGame, NotGivenUp, ReadsNext, seeks}
+use Rattle.chess_pgn.specs.Sources.{Games, HasFault, HasGame, HasNone, IsGivenUp, IsGivenUpInPart, IsPlaced, IsSound, Leaves, MayGoOn, NextGame, NotGivenUp, ReadsNext, seeks}
 use Rattle.chess_pgn.specs.steps.GameAt.{FoundGame, HasCome, NoneCame}
 use Rattle.chess_pgn.specs.steps.GameCode.{game_of}
 use Rattle.chess_pgn.specs.steps.Next.{HasKind}
@@ -120,18 +120,18 @@ module _ {R : Type 0} (gives : R → List ℕ → R → Type 0) (failed : R → 
 -- where reading may go on after a fault, the source has ended where its end was seen
 module _ {R : Type 0} (gives : R → List ℕ → R → Type 0) (failed : R → Bool) (ended : R → Type 0) where
   pub fault_sound : (old : AtHand R) (new : Games R) (fault : GamesFault) → new.fault ≡ Some fault → HasFault gives failed ended old new.text fault → IsSound ended new
-  fault_sound old new fault e h = record { ended_so = λ on. by fault (subst (λ (f : Option GamesFault). GoesOn f) e on) h }
+  fault_sound old new fault e h = record { ended_so = λ on. by fault (subst (λ (f : Option GamesFault). MayGoOn f) e on) h }
     where
-      by : (fault : GamesFault) → GoesOn (Some fault) → HasFault gives failed ended old new.text fault → new.text.has_ended ≡ true → ended new.text.source
+      by : (fault : GamesFault) → MayGoOn (Some fault) → HasFault gives failed ended old new.text fault → new.text.has_ended ≡ true → ended new.text.source
       by Read on h = absurd on
       by (Pgn f) on (inl k) = absurd (on k.0)
       by (Pgn f) on (inr k) = k.1.ended_so
 
   -- and such a fault stays where bytes can't be passed over
   pub not_passed_sound : (old : AtHand R) (new : Games R) (fault : GamesFault) → new.fault ≡ Some fault → NotGivenUp gives failed old new.text fault → IsSound ended new
-  not_passed_sound old new fault e h = record { ended_so = λ on. by fault (subst (λ (f : Option GamesFault). GoesOn f) e on) h }
+  not_passed_sound old new fault e h = record { ended_so = λ on. by fault (subst (λ (f : Option GamesFault). MayGoOn f) e on) h }
     where
-      by : (fault : GamesFault) → GoesOn (Some fault) → NotGivenUp gives failed old new.text fault → new.text.has_ended ≡ true → ended new.text.source
+      by : (fault : GamesFault) → MayGoOn (Some fault) → NotGivenUp gives failed old new.text fault → new.text.has_ended ≡ true → ended new.text.source
       by Read on h = absurd on
       by (Pgn f) on h = absurd (on h.0)
 
@@ -157,7 +157,7 @@ module _ {R A : Type 0} (gives : R → List ℕ → R → Type 0) (failed : R �
   pub first_reads : (new : Games R) (result : Result (Option (Game A)) GamesFault) → old.fault ≡ None → IsSound ended new → IfErr result (λ fault. new.fault ≡ Some fault) → IfOk result (λ _. new.fault ≡ None)
       → IfOk result (λ found. IfSome found (λ game. NextGame gives failed old new (game_of game))) → IfOk result (λ found. IfSome found (λ game. game.tree.path ≡ [])) → (result ≡ Ok None → HasNone gives failed old.text new.text)
       → IfErr result (λ fault. HasFault gives failed ended old.text new.text fault) → IfErr result (λ fault. IsPlaced old.text.used fault)
-      → IfErr result (λ fault. GoesOn (Some fault) → Leaves gives failed old.text new.text new.halt) → ReadsNext gives failed ended old new result
+      → IfErr result (λ fault. MayGoOn (Some fault) → Leaves gives failed old.text new.text new.halt) → ReadsNext gives failed ended old new result
   first_reads new result came sound sticky good game cursor none fault place leaves = record {
     sound = sound;
     again = λ before h. absurd (let k = sym came ∙ h in cc);
@@ -189,21 +189,21 @@ module _ {R E : Type 0} (gives : R → List ℕ → R → Type 0) (failed : R �
   -- and else after the items of the bad game
   pub gives_up : (before : AtHand R) (fault : Option GamesFault) (halt : Option Halt) → (seeks fault halt ≡ None → IfOk result (λ count. PassesOver gives failed old new count))
       → ((h : Halt) (before : AtHand R) → seeks fault halt ≡ Some h → Halts gives failed before old h → IfOk result (λ count. GivesUpFrom gives failed before new (h.at + count)))
-      → (why : GamesFault) → fault ≡ Some why → Leaves gives failed before old halt → IfOk result (λ _. GivesUp gives failed before new)
+      → (why : GamesFault) → fault ≡ Some why → Leaves gives failed before old halt → IfOk result (λ _. IsGivenUp gives failed before new)
   gives_up before None halt passes up why is leaves = absurd (let e = is in cc)
-  gives_up before (Some fault) None passes up why is leaves = if_ok (λ count. PassesOver gives failed old new count) (GivesUp gives failed before new) (λ count p. (new.used - before.used, gives_up_all gives failed before old new leaves count p)) result (passes refl)
-  gives_up before (Some fault) (Some h) passes up why is leaves = if_ok (λ count. GivesUpFrom gives failed before new (h.at + count)) (GivesUp gives failed before new) (λ count p. (h.at + count, p)) result (up h before refl leaves)
+  gives_up before (Some fault) None passes up why is leaves = if_ok (λ count. PassesOver gives failed old new count) (IsGivenUp gives failed before new) (λ count p. (new.used - before.used, gives_up_all gives failed before old new leaves count p)) result (passes refl)
+  gives_up before (Some fault) (Some h) passes up why is leaves = if_ok (λ count. GivesUpFrom gives failed before new (h.at + count)) (IsGivenUp gives failed before new) (λ count p. (h.at + count, p)) result (up h before refl leaves)
 
 -- a bad game that can't be given up
 module _ {R : Type 0} (gives : R → List ℕ → R → Type 0) (failed : R → Bool) (old new : AtHand R) (off : Fault) where
   pub in_part : (before : AtHand R) (fault : Option GamesFault) (halt : Option Halt) → (seeks fault halt ≡ None → SeekBreaks gives failed old new off)
-      → ((h : Halt) (before : AtHand R) → seeks fault halt ≡ Some h → Halts gives failed before old h → UsesInPart gives failed before new off) → (why : GamesFault) → fault ≡ Some why → Leaves gives failed before old halt → UsesInPart gives failed before new off
+      → ((h : Halt) (before : AtHand R) → seeks fault halt ≡ Some h → Halts gives failed before old h → GivesUpInPart gives failed before new off) → (why : GamesFault) → fault ≡ Some why → Leaves gives failed before old halt → GivesUpInPart gives failed before new off
   in_part before None halt stops part why is leaves = absurd (let e = is in cc)
   in_part before (Some fault) None stops part why is leaves = sought_part gives failed before old leaves new off (stops refl)
   in_part before (Some fault) (Some h) stops part why is leaves = part h before refl leaves
 
 -- wherever the fault is placed
-pub part_placed : {R : Type 0} (gives : R → List ℕ → R → Type 0) (failed : R → Bool) (before new : AtHand R) (fault placed : GamesFault) → HasKind fault placed → GivesUpInPart gives failed before new fault → GivesUpInPart gives failed before new placed
+pub part_placed : {R : Type 0} (gives : R → List ℕ → R → Type 0) (failed : R → Bool) (before new : AtHand R) (fault placed : GamesFault) → HasKind fault placed → IsGivenUpInPart gives failed before new fault → IsGivenUpInPart gives failed before new placed
 part_placed gives failed before new (Pgn fault) (Pgn placed) e h = (e ∙ h.0, h.1)
 part_placed gives failed before new (Pgn fault) Read e h = absurd e
 part_placed gives failed before new Read (Pgn placed) e h = absurd e

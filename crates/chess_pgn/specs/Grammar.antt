@@ -6,7 +6,7 @@
 --   meaning      what a line adds, by the positions before its last move and after it
 --   Derives      the elements of a game's own line give its comment and its moves
 --   few_are_open no more than 128 variations are open at once
--- A variation replaces the last move of the line around it: its first move is a further child of the same parent. Children stand in
+-- A variation replaces the last move of the line around it: its first move is a further child of the same parent. Children are in
 -- the order in which their moves begin.
 use Rattle.std.specs.Prelude.{◌≡◌, ℕ, suc, ◌-◌, nat_lt, ◌&&◌, Bool, true, List, [], ◌∷◌, ◌++◌, Option, Some, None, Result, Ok, Err}
 use Rattle.std.specs.List.{flat_map}
@@ -26,7 +26,7 @@ pub data Element : Type 0 where
   -- a move number or a period
   Number : Element
   Annotation : ℕ → Element
-  -- a comment, in which each run of white space is one space
+  -- a comment, in which each run of whitespace is one space
   Remark : List ℕ → Element
   -- the parentheses of a variation
   Open : Element
@@ -65,7 +65,7 @@ elements_of (Say text line) = Remark text ∷ elements_of line
 elements_of (Play word line) = Text word ∷ elements_of line
 elements_of (Vary variation line) = Open ∷ (elements_of variation ++ Close ∷ elements_of line)
 
--- so many are open already
+-- `n` are open already
 abbrev pub few_are_open : ℕ → List Element → Bool
 few_are_open n [] = true
 few_are_open n (Open ∷ es) = nat_lt n 128 && few_are_open (suc n) es
@@ -133,7 +133,7 @@ ok_move (Err fault) = None
 abbrev pub move_in : PositionParts → List ℕ → Option MoveParts
 move_in p word = ok_move (san_reading p word)
 
--- There is no position before the last move where the line has none so far; no variation may stand there.
+-- There is no position before the last move where the line has none so far; no variation may come there.
 abbrev pub meaning : LineSyntax → Option PositionParts → PositionParts → Option Addition
 meaning End before here = Some nothing
 meaning (Skip line) before here = meaning line before here

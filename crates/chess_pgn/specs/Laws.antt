@@ -64,8 +64,8 @@ pub record IsGame (game : Game) : Type 0 where
   pub deep : height game.tree.below ≤ most_plies
   pub many : moves_held game.tree.below ≤ most_moves
 
--- Whatever white space stands before the text of a game, and whatever follows it, that game is there, up to the two line feeds at the
--- text's end: where that isn't too long for a game, and no more than 128 variations are open at once. So do games whose texts stand one after
+-- Whatever whitespace comes before the text of a game, and whatever follows it, that game is there, up to the two line feeds at the
+-- text's end: where that isn't too long for a game, and no more than 128 variations are open at once. So do games whose texts come one after
 -- the other.
 abbrev pub WrittenIsRead : Type 0
 WrittenIsRead =

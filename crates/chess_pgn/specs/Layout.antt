@@ -1,7 +1,7 @@
 -- A text in lines of at most 79 bytes (PGN 4.3, 8.2.1).
 --   line_width   the most bytes of a line
---   lay          words after a line of so many bytes: each after a space, or on a new line where the line would be too long
---   in_lines     the words of a text, separated by spaces, in such lines; a longer word stands alone
+--   lay          words after a line of `column` bytes: each after a space, or on a new line where the line would be too long
+--   in_lines     the words of a text, separated by spaces, in such lines; a longer word is alone on its line
 use Rattle.std.specs.Prelude.{ℕ, ◌+◌, nat_le, if◌then◌else◌, List, [], ◌∷◌, ◌++◌, length, codes}
 use Rattle.std.specs.Str.{byte}
 use Rattle.byte_streams.specs.Words.{words}
@@ -10,7 +10,7 @@ use Rattle.byte_streams.specs.Words.{words}
 abbrev pub line_width : ℕ
 line_width = 79
 
--- words after a line of so many bytes
+-- words after a line of `column` bytes
 abbrev pub lay : ℕ → List (List ℕ) → List ℕ
 lay column [] = []
 lay column (word ∷ others) =

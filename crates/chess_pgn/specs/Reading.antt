@@ -1,7 +1,7 @@
 -- What the start of a text gives as a game (PGN 8).
---   is_heading       may stand before the movetext: a part of a tag, a comment, or white space
---   is_tagged        stands in a tag alone, after its bracket
---   is_movetext      may stand in movetext, and doesn't end it
+--   is_heading       may come before the movetext: a part of a tag, a comment, or whitespace
+--   is_tagged        comes in a tag alone, after its bracket
+--   is_movetext      may come in movetext, and doesn't end it
 --   remarks          the comments among some items, after others
 --   Starts           movetext begins with an item that no head has
 --   HasBegun         movetext has such an item
@@ -13,7 +13,7 @@
 --   MayBegin         some items go on to a head, whatever start its tags give, or to a head and such movetext
 --   HasNoGame        no game is at the start of a text
 --   HasNoGameYet     no one game is at the start of every text that begins so
---   IsWhite          a text has white space, marks and hidden lines alone
+--   IsWhite          a text has whitespace, marks and hidden lines alone
 --   IsAnswered       a reader returns that game, unless there is no memory
 use Rattle.std.specs.Prelude.{◌≡◌, ◌⊎◌, ℕ, ◌+◌, ◌≤◌, Bool, true, false, not, List, [], ◌∷◌, ◌++◌, length, Option, Some, None, Result, Ok, Err, ⊤}
 use Rattle.std.specs.List.{list_all}
@@ -95,11 +95,11 @@ pub record Gives (is : List Item) (rest : List ℕ) (game : Game) : Type 0 where
   pub few : few_are_open 0 (elements movetext) ≡ true
   pub derives : Derives (elements movetext) game.tree.start (remarks [] head) game.tree.comment game.tree.below
 
--- at most 20,000 plies in a line; so many bytes never have more moves than a tree holds
+-- at most 20,000 plies in a line; the bytes of a game never have more moves than a tree holds
 pub record IsWithinLimits (game : Game) : Type 0 where
   pub deep : height game.tree.below ≤ most_plies
 
--- the first bytes, so many, at most 1,048,576, and not white alone; what follows them cuts no item short
+-- the first `used` bytes, at most 1,048,576, and not white alone; what follows them cuts no item short
 pub record BeginsWithGame (input : List ℕ) (game : Game) (used : ℕ) : Type 0 where
   pub items : List Item
   pub rest : List ℕ

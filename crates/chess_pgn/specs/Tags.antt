@@ -18,7 +18,7 @@ use Rattle.chess_pgn.specs.Games.{Tags, tag_in}
 
 -- ---- a tag
 
--- what may stand between the parts of a tag
+-- what may come between the parts of a tag
 abbrev pub is_tag_gap : Item → Bool
 is_tag_gap (Blank b) = true
 is_tag_gap Hidden = true
@@ -28,7 +28,7 @@ is_tag_gap _ = false
 abbrev pub AreGaps : List Item → Type 0
 AreGaps = AllByRecursion (λ item. is_tag_gap item ≡ true)
 
--- a value stands in stretches, and bytes after a backslash
+-- a value is made of stretches, and of bytes after a backslash
 abbrev pub is_value_part : Item → Bool
 is_value_part (Stretch text) = true
 is_value_part (Escaped b) = true
@@ -62,7 +62,7 @@ pub record IsTag (items : List Item) (name value : List ℕ) : Type 0 where
 
 -- ---- tags
 
--- what may stand between tags: white space and comments
+-- what may come between tags: whitespace and comments
 abbrev pub may_part_tags : Item → Bool
 may_part_tags (Comment text) = true
 may_part_tags item = is_white item
@@ -71,7 +71,7 @@ may_part_tags item = is_white item
 abbrev pub AreBetween : List Item → Type 0
 AreBetween = AllByRecursion (λ item. may_part_tags item ≡ true)
 
--- these tags, one after another, and nothing else but what may stand between them
+-- these tags, one after another, and nothing else but what may come between them
 abbrev pub AreTags : List Item → List (List ℕ × List ℕ) → Type 0
 AreTags items [] = AreBetween items
 AreTags items (tag ∷ tags) =
@@ -79,7 +79,7 @@ AreTags items (tag ∷ tags) =
 
 -- ---- what they say
 
--- the names ascend in ASCII order, so that none stands twice
+-- the names ascend in ASCII order, so that none comes twice
 abbrev pub Ascend : List (List ℕ × List ℕ) → Type 0
 Ascend tags = IsStrictlySortedBy (slice_cmp nat_cmp) (map (λ tag. tag.0) tags)
 

@@ -28,7 +28,7 @@ use Rattle.chess_pgn.specs.Layout.{in_lines}
 
 -- ---- tags
 
--- a quotation mark and a backslash stand after a backslash (PGN 7)
+-- a quotation mark and a backslash are written after a backslash (PGN 7)
 abbrev pub escaped : List ℕ → List ℕ
 escaped [] = []
 escaped (b ∷ value) = if is_escapable b then byte "\\" ∷ b ∷ escaped value else b ∷ escaped value
@@ -41,7 +41,7 @@ tag_text name value = codes "[" ++ (name ++ (codes " \"" ++ (escaped value ++ co
 abbrev pub is_before : List ℕ → List ℕ → Bool
 is_before name next = is_lt (slice_cmp nat_cmp name next)
 
--- whether a name stands from one on and before the other, if there is one
+-- whether a name is this one or comes after it, and comes before the other, if there is one
 abbrev pub is_within : (from : List ℕ) → (to : Option (List ℕ)) → List ℕ → Bool
 is_within from None name = not (is_before name from)
 is_within from (Some to) name = not (is_before name from) && is_before name to

@@ -1,7 +1,7 @@
 //! Games of a text or of a source, one after another.
 
 ghost use Rattle.std.specs.Prelude.{◌≡◌, ◌⊎◌, ◌<◌, ◌≤◌, ◌+◌, ◌^◌, ℕ, false, [], true, Some, None, Ok, Err, IfErr, IfOk, IfSome};
-ghost use Rattle.chess_items.specs.Abandoned.{GivesUpFrom, GivesUpInPart as UsesInPart, Halts};
+ghost use Rattle.chess_items.specs.Abandoned.{GivesUpFrom, GivesUpInPart, Halts};
 ghost use Rattle.chess_items.specs.Coming as coming;
 ghost use Rattle.chess_items.specs.Coming.{Breaks, Came, unread};
 ghost use Rattle.chess_items.specs.Sections.{PassesOver};
@@ -10,7 +10,7 @@ ghost use Rattle.chess_items.specs.declared.fault.FaultKind.TheVariants.{Memory}
 ghost use Rattle.chess_pgn.specs.Games as games;
 ghost use Rattle.chess_pgn.specs.declared.games.GamesFault.TheVariants.{Pgn};
 ghost use Rattle.chess_pgn.specs.Reading.{HasNoGame, IsAnswered, BeginsWithGame, IsWhite};
-ghost use Rattle.chess_pgn.specs.Sources.{GivesUp, GivesUpInPart, GoesOn, HasFault, HasNone, IsPlaced, IsSound, Leaves, NotGivenUp, NotPassed, ReadsNext, seeks, used_of};
+ghost use Rattle.chess_pgn.specs.Sources.{HasFault, HasNone, IsGivenUp, IsGivenUpInPart, IsPlaced, IsSound, Leaves, MayGoOn, NotGivenUp, NotPassed, ReadsNext, seeks, used_of};
 ghost use Rattle.chess_pgn.specs.steps.GameAt.{HaltsAt, TakesGame, halt_at, is_flood};
 ghost use Rattle.chess_pgn.specs.steps.GameCode.{game_of};
 ghost use Rattle.chess_pgn.specs.steps.Next.{HasKind, staying};
@@ -91,7 +91,7 @@ fn stopped_game<'a, A: Allocator>(
     reader.into_game()
 }
 
-// Whether white space alone came before what reaches past the limit.
+// Whether whitespace alone came before what reaches past the limit.
 fn is_flooded(stopped: Stopped) -> bool
     ensures { result ≡ is_flood stopped.why stopped.white }
 {
@@ -101,7 +101,7 @@ fn is_flooded(stopped: Stopped) -> bool
     }
 }
 
-// Where the reading has stopped; none, where white space alone came before what reaches past the limit, and all of it is used.
+// Where the reading has stopped; none, where whitespace alone came before what reaches past the limit, and all of it is used.
 fn halt_of<A: Allocator>(reader: &Reader<'_, A>, stopped: Stopped) -> Option<Halt>
     ensures { result ≡ halt_at (is_flood stopped.why stopped.white) (record { place = stopped.place; at = stopped.at; begun = reader.now.moving; white = stopped.white }) }
 {
@@ -146,7 +146,7 @@ fn take_game<'a, X: Text, A: Allocator>(
     }
 }
 
-/// The game that the text begins with, and how many bytes of it that took; `None` where there are only white space and hidden lines.
+/// The game that the text begins with, and how many bytes of it that took; `None` where there are only whitespace and hidden lines.
 ///
 /// # Errors
 ///
@@ -179,7 +179,7 @@ pub fn read_game<'a, A: Allocator>(
     }
 }
 
-// A fault of a text with its place after so many bytes; want of memory has its place there.
+// A fault of a text with its place `used` bytes further on; want of memory has its place after those.
 fn placed_after(fault: PgnFault, used: u64) -> PgnFault
     ensures kind { result.kind ≡ fault.kind }
     ensures place { IsPlaced used (Pgn result) }
@@ -196,7 +196,7 @@ fn placed_after(fault: PgnFault, used: u64) -> PgnFault
     }
 }
 
-// A fault with its place after so many bytes.
+// A fault with its place `used` bytes further on.
 fn placed(fault: GamesFault, used: u64) -> GamesFault
     ensures kind { HasKind fault result }
     ensures place { IsPlaced used result }
@@ -209,7 +209,7 @@ fn placed(fault: GamesFault, used: u64) -> GamesFault
 
 /// The games of a source, one after another. After a fault `next` returns that fault again, until `pass_over` goes on to the next section of
 /// tags. Contracts see the bytes at hand, how many were used before them, the fault, and how far the items of its game were used, unless all
-/// of them were: white space alone, before what reaches past 1,048,576 bytes.
+/// of them were: whitespace alone, before what reaches past 1,048,576 bytes.
 #[derive(Drop)]
 pub struct Games<'a, R, A: Allocator> {
     text: AtHand<'a, R, A>,
@@ -335,7 +335,7 @@ impl<'a, R: Source, A: Allocator> Games<'a, R, A> {
         ensures ended { IfOk result (λ _. self.new.text.has_ended ≡ true → R.ended self.new.text.source) }
         ensures stops { seeks self.old.fault self.old.halt ≡ None → IfErr result (λ fault. Stops R.gives R.failed self.old.text self.new.text fault) }
         ensures broken { IfErr result (λ fault. Broken R.gives R.failed self.old.text self.new.text fault) }
-        ensures in_part { (halt : Halt) (before : coming.AtHand R) → seeks self.old.fault self.old.halt ≡ Some halt → Halts R.gives R.failed before self.old.text halt → IfErr result (λ fault. UsesInPart R.gives R.failed before self.new.text fault) }
+        ensures in_part { (halt : Halt) (before : coming.AtHand R) → seeks self.old.fault self.old.halt ≡ Some halt → Halts R.gives R.failed before self.old.text halt → IfErr result (λ fault. GivesUpInPart R.gives R.failed before self.new.text fault) }
     {
         match self.halted() {
             None => self.text.pass_to_section(),
@@ -357,15 +357,15 @@ impl<'a, R: Source, A: Allocator> Games<'a, R, A> {
     // Passes over bytes, and forgets the fault where that goes well.
     fn pass(&mut self) -> Result<u64, GamesFault>
         requires sound { IsSound R.ended self.old }
-        requires goes_on { GoesOn self.old.fault }
+        requires goes_on { MayGoOn self.old.fault }
         ensures good { IfOk result (λ _. self.new.fault ≡ None) }
         ensures sound { IfOk result (λ _. self.new.text.has_ended ≡ true → R.ended self.new.text.source) }
         ensures passes { self.old.fault ≡ None → IfOk result (λ count. PassesOver R.gives R.failed self.old.text self.new.text count) }
-        ensures gives_up { (fault : GamesFault) (before : coming.AtHand R) → self.old.fault ≡ Some fault → Leaves R.gives R.failed before self.old.text self.old.halt → IfOk result (λ _. GivesUp R.gives R.failed before self.new.text) }
+        ensures gives_up { (fault : GamesFault) (before : coming.AtHand R) → self.old.fault ≡ Some fault → Leaves R.gives R.failed before self.old.text self.old.halt → IfOk result (λ _. IsGivenUp R.gives R.failed before self.new.text) }
         ensures used { IfOk result (λ count. self.new.text.used ≡ self.old.text.used + count) }
         ensures fault { self.old.fault ≡ None → IfErr result (λ fault. NotPassed R.gives R.failed self.old.text self.new.text fault) }
         ensures broken { IfErr result (λ fault. NotGivenUp R.gives R.failed self.old.text self.new.text fault) }
-        ensures in_part { (fault : GamesFault) (before : coming.AtHand R) → self.old.fault ≡ Some fault → Leaves R.gives R.failed before self.old.text self.old.halt → IfErr result (λ fault. GivesUpInPart R.gives R.failed before self.new.text fault) }
+        ensures in_part { (fault : GamesFault) (before : coming.AtHand R) → self.old.fault ≡ Some fault → Leaves R.gives R.failed before self.old.text self.old.halt → IfErr result (λ fault. IsGivenUpInPart R.gives R.failed before self.new.text fault) }
     {
         match self.go_on() {
             Ok(count) => {
@@ -377,7 +377,7 @@ impl<'a, R: Source, A: Allocator> Games<'a, R, A> {
         }
     }
 
-    // Keeps a fault with its place from the input's beginning, after so many bytes, and returns it.
+    // Keeps a fault with its place from the input's beginning, `used` bytes further on, and returns it.
     fn keep(&mut self, fault: GamesFault, used: u64) -> GamesFault
         ensures text { self.new.text ≡ self.old.text }
         ensures halt { self.new.halt ≡ self.old.halt }
@@ -411,7 +411,7 @@ impl<'a, R: Source, A: Allocator> Games<'a, R, A> {
         }
     }
 
-    /// The next game; `None` where there are only white space and hidden lines. It is read before the next: the source is asked for more,
+    /// The next game; `None` where there are only whitespace and hidden lines. It is read before the next: the source is asked for more,
     /// at most 65,536 bytes at a time, only where no one game is at the start of the bytes at hand, whatever follows them, and their items may
     /// still be the beginning of one; so a read that fails never takes the place of a fault.
     ///
@@ -430,11 +430,11 @@ impl<'a, R: Source, A: Allocator> Games<'a, R, A> {
 
     /// Passes over bytes, from where reading stopped to the next section of tags, and returns how many: `next` goes on there, as if the input
     /// began there. A section begins with `[` and the first byte of a tag's name (a letter, a digit or `_`) where they are first on a
-    /// line, after white space at most; a line begins after a line feed or a byte order mark, and where the search begins. Where none
+    /// line, after whitespace at most; a line begins after a line feed or a byte order mark, and where the search begins. Where none
     /// begins, all bytes are passed over, and `next` returns `None`.
     ///
     /// After a fault the search begins after the items of the game that has it, whatever they mean: they end at the bracket of a tag after
-    /// movetext, at what is no item, or at 1,048,576 bytes; where white space alone comes before what reaches past these, at its end. So
+    /// movetext, at what is no item, or at 1,048,576 bytes; where whitespace alone comes before what reaches past these, at its end. So
     /// the text alone decides where reading goes on, and not where it stopped; a bracket in a comment of that game begins no section, and a
     /// left brace without a right one ends its items. Without a fault the search begins after the last game. The source is asked for more only where
     /// the bytes before it don't decide where reading goes on.
@@ -446,18 +446,18 @@ impl<'a, R: Source, A: Allocator> Games<'a, R, A> {
     pub fn pass_over(&mut self) -> Result<u64, GamesFault>
         requires { IsSound R.ended self.old }
         ensures sound { IsSound R.ended self.new }
-        ensures again { (fault : GamesFault) → self.old.fault ≡ Some fault → (GoesOn (Some fault) → ⊥) → result ≡ Err fault }
-        ensures untouched { (fault : GamesFault) → self.old.fault ≡ Some fault → (GoesOn (Some fault) → ⊥) → self.new ≡ self.old }
+        ensures again { (fault : GamesFault) → self.old.fault ≡ Some fault → (MayGoOn (Some fault) → ⊥) → result ≡ Err fault }
+        ensures untouched { (fault : GamesFault) → self.old.fault ≡ Some fault → (MayGoOn (Some fault) → ⊥) → self.new ≡ self.old }
         ensures sticky { IfErr result (λ fault. self.new.fault ≡ Some fault) }
         ensures good { IfOk result (λ _. self.new.fault ≡ None) }
-        ensures goes_on { IfOk result (λ _. GoesOn self.old.fault) }
+        ensures goes_on { IfOk result (λ _. MayGoOn self.old.fault) }
         ensures passes { self.old.fault ≡ None → IfOk result (λ count. PassesOver R.gives R.failed self.old.text self.new.text count) }
-        ensures gives_up { (fault : GamesFault) (before : coming.AtHand R) → self.old.fault ≡ Some fault → Leaves R.gives R.failed before self.old.text self.old.halt → IfOk result (λ _. GivesUp R.gives R.failed before self.new.text) }
+        ensures gives_up { (fault : GamesFault) (before : coming.AtHand R) → self.old.fault ≡ Some fault → Leaves R.gives R.failed before self.old.text self.old.halt → IfOk result (λ _. IsGivenUp R.gives R.failed before self.new.text) }
         ensures used { IfOk result (λ count. self.new.text.used ≡ self.old.text.used + count) }
         ensures fault { self.old.fault ≡ None → IfErr result (λ fault. NotPassed R.gives R.failed self.old.text self.new.text fault) }
-        ensures broken { GoesOn self.old.fault → IfErr result (λ fault. NotGivenUp R.gives R.failed self.old.text self.new.text fault) }
-        ensures in_part { (fault : GamesFault) (before : coming.AtHand R) → self.old.fault ≡ Some fault → GoesOn (Some fault) → Leaves R.gives R.failed before self.old.text self.old.halt → IfErr result (λ fault. GivesUpInPart R.gives R.failed before self.new.text fault) }
-        ensures place { GoesOn self.old.fault → IfErr result (λ fault. IsPlaced self.old.text.used fault) }
+        ensures broken { MayGoOn self.old.fault → IfErr result (λ fault. NotGivenUp R.gives R.failed self.old.text self.new.text fault) }
+        ensures in_part { (fault : GamesFault) (before : coming.AtHand R) → self.old.fault ≡ Some fault → MayGoOn (Some fault) → Leaves R.gives R.failed before self.old.text self.old.halt → IfErr result (λ fault. IsGivenUpInPart R.gives R.failed before self.new.text fault) }
+        ensures place { MayGoOn self.old.fault → IfErr result (λ fault. IsPlaced self.old.text.used fault) }
     {
         if let Some(fault) = self.staying() {
             return Err(fault);

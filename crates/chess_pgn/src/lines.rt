@@ -37,7 +37,7 @@ impl<'a, A: Allocator> Lines<'a, A> {
         })
     }
 
-    // Ends the last word, of so many bytes, in its line.
+    // Ends the last word, of `len` bytes, in its line.
     fn stay(&mut self, len: usize) -> Result<(), AllocError>
         requires fits { self.old.column + 1 + len ≤ line_width }
         ensures text { OnOk result (self.new.text.items ≡ self.old.text.items ++ 32 ∷ []) }
@@ -51,7 +51,7 @@ impl<'a, A: Allocator> Lines<'a, A> {
         Ok(())
     }
 
-    // Ends the last word, of so many bytes, in a line of its own.
+    // Ends the last word, of `len` bytes, in a line of its own.
     fn break_line(&mut self, len: usize) -> Result<(), AllocError>
         ensures text { OnOk result (self.new.text.items ≡ slice_set self.old.text.items self.old.space 10 ++ 32 ∷ []) }
         ensures space { OnOk result (self.new.space ≡ length self.old.text.items) }

@@ -97,7 +97,7 @@ enum Task<'t, 'a, A: Allocator> {
     Back,
 }
 
-/// Writes the moves of a tree. What is still to be written stands in `tasks`, the next one last.
+/// Writes the moves of a tree. What is still to be written is in `tasks`, the next one last.
 #[derive(Drop)]
 struct Writer<'t, 'a, A: Allocator> {
     lines: Lines<'a, A>,

@@ -19,7 +19,7 @@ use header::Header;
 use moves::Moves;
 use std::alloc::Allocator;
 
-/// Reads a game, item by item (PGN 8). Tags and comments come first; the movetext begins at any other item but white space.
+/// Reads a game, item by item (PGN 8). Tags and comments come first; the movetext begins at any other item but whitespace.
 #[derive(Drop)]
 pub struct Reader<'a, A: Allocator> {
     alloc: &'a A,

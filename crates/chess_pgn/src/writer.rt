@@ -61,14 +61,14 @@ fn push_tag<'a, A: Allocator>(
     text.extend_from_slice(b"\"]\n")
 }
 
-// Whether a name stands before another in ASCII order.
+// Whether a name comes before another in ASCII order.
 fn is_before(name: &[u8], next: &[u8]) -> bool
     ensures { result ≡ is_before name.now next.now }
 {
     name < next
 }
 
-// Whether a name stands from one on and before the other, if there is one.
+// Whether a name is this one or comes after it, and comes before the other, if there is one.
 fn is_within(from: &[u8], to: Option<&[u8]>, name: &[u8]) -> bool
     ensures { result ≡ is_within from.now (option_map (λ next. next.now) to.entry) name.now }
 {

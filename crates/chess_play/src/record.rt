@@ -31,17 +31,62 @@ impl Model for Record {
 }
 
 impl Record {
+    /// That of a move, by its parts.
+    #[inline(always)]
+    pub fn from_parts(
+        played: Move,
+        captured: Content,
+        rights: Rights,
+        target: Option<Square>,
+        clock: u32,
+    ) -> Record
+        ensures { result ≡ record { played = played; captured = captured; rights = rights; target = target; clock = clock } }
+    {
+        Record {
+            played,
+            captured,
+            rights,
+            target,
+            clock,
+        }
+    }
+
     /// The move.
+    #[inline(always)]
     pub fn played(self) -> Move
         ensures { result ≡ self.played }
     {
         self.played
     }
 
+    /// What it captured.
+    #[inline(always)]
+    pub fn captured(self) -> Content
+        ensures { result ≡ self.captured }
+    {
+        self.captured
+    }
+
+    /// The en passant target before it.
+    #[inline(always)]
+    pub fn target(self) -> Option<Square>
+        ensures { result ≡ self.target }
+    {
+        self.target
+    }
+
+    /// The halfmove clock before it, in plies.
+    #[inline(always)]
+    pub fn clock(self) -> u32
+        ensures { result ≡ self.clock }
+    {
+        self.clock
+    }
+
     /// The castling rights before it.
     #[inline(always)]
-    pub fn rights(&self) -> Rights
-        ensures { result ≡ self.now.rights }
+    pub fn rights(self) -> Rights
+        ensures { result ≡ self.rights }
     {
         self.rights
     }

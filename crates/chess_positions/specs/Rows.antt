@@ -4,7 +4,7 @@
 --   cell_text    a value, in JSON after its column's name
 --   with_commas  texts of columns with commas between them
 --   ply_text     the row of a ply: its cells with commas between them
---   names_text   what stands before the rows: in comma-separated values a row of the columns' names
+--   names_text   what comes before the rows: in comma-separated values a row of the columns' names
 --   plies_text   the rows of a line's plies, from its start to its last position
 use Rattle.std.specs.Prelude.{ℕ, zero, suc, List, [], ◌∷◌, ◌++◌, length, codes, decimal, flat_map}
 use Rattle.std.specs.Str.{byte}

@@ -88,8 +88,8 @@ fn key_text(key: u64) -> [u8; 16]
     digits
 }
 
-// The FEN of the last position, its four fields by which the Laws tell positions apart, and Polyglot's key: each buffer is in a frame of its own, so that no other
-// cell has to clear it.
+// The FEN of the last position, the four fields that show which positions are the same, and Polyglot's key: each buffer is in a frame of its own,
+// so that no other cell has to clear it.
 #[inline(never)]
 fn put_fen<A: Allocator, B: Allocator>(
     out: &mut Vec<u8, A>,

@@ -25,7 +25,7 @@ pub enum Column {
     Key,
     /// How often the position has come up, this time included (FIDE Laws 9.2.2).
     Repetitions,
-    /// How the game stands: `mate`, `stalemate`, `dead`, `fivefold`, `seventyfive` or `play` (FIDE Laws 5.1.1, 5.2.1, 5.2.2, 9.6).
+    /// The game's status: `mate`, `stalemate`, `dead`, `fivefold`, `seventyfive` or `play` (FIDE Laws 5.1.1, 5.2.1, 5.2.2, 9.6).
     Status,
     /// The marker at the game's end, the same in each of its rows (PGN 8.2.6).
     Result,

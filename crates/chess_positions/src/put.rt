@@ -16,7 +16,7 @@ pub(crate) fn put<A: Allocator>(out: &mut Vec<u8, A>, text: &[u8]) -> Result<(),
     out.extend_from_slice(text)
 }
 
-// What stands before a text and after it.
+// What comes before a text and after it.
 fn quote(format: Format) -> &'static [u8]
     ensures { result.now ≡ quote format }
 {

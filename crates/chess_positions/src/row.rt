@@ -1,4 +1,4 @@
-//! A row from its cells: what stands before, between and after them in each format.
+//! A row from its cells: what comes before, between and after them in each format.
 
 ghost use Rattle.std.specs.Prelude.{◌≡◌, ◌++◌, ◌∷◌, [], map, OnOk};
 ghost use Rattle.std.specs.List.{list_any};
@@ -15,7 +15,7 @@ use crate::put::put;
 use chess_draws::PlainLine;
 use std::alloc::{AllocError, Allocator};
 
-// What stands before a value.
+// What comes before a value.
 fn label(format: Format, column: Column) -> &'static [u8]
     ensures { result.now ≡ label format column }
 {
@@ -34,7 +34,7 @@ fn label(format: Format, column: Column) -> &'static [u8]
     }
 }
 
-// What stands before the cells of a row.
+// What comes before the cells of a row.
 fn opening(format: Format) -> &'static [u8]
     ensures { result.now ≡ opening format }
 {
@@ -44,7 +44,7 @@ fn opening(format: Format) -> &'static [u8]
     }
 }
 
-// What stands after them.
+// What comes after them.
 fn closing(format: Format) -> &'static [u8]
     ensures { result.now ≡ closing format }
 {

@@ -1,5 +1,5 @@
 -- How a game ended, by the Laws (FIDE Laws, articles 5.1, 5.2, 9.2, 9.3 and 9.6; PGN 8.2.6).
---   ended_by         from how the last position stands and who has mated
+--   ended_by         from the last position's status and who has mated
 --   has_claim        a draw may be claimed in it
 --   outcome_by_laws  of a line, with the draws that may be claimed or without
 use Rattle.std.specs.Prelude.{◌||◌, ◌&&◌, if◌then◌else◌, Bool, Option, Some, None}

@@ -9,7 +9,7 @@ use chess_items::Outcome;
 use chess_types::{Colour, Status};
 use std::alloc::Allocator;
 
-/// How a game ended that stands so, where that side has mated the other: the winner's, a draw, or open where the game goes on (FIDE Laws 5.1.1,
+/// How a game of that status ended, where that side has mated the other: the winner's, a draw, or open where the game goes on (FIDE Laws 5.1.1,
 /// 5.2.1, 5.2.2, 9.6).
 pub fn outcome_by(status: Status, won: Option<Colour>) -> Outcome
     ensures { result ≡ ended_by status won }

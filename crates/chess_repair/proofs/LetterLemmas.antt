@@ -1,6 +1,6 @@
 -- Texts with letters written as the standard's.
 use Rattle.std.proofs.Common.{◌≡◌, inl, inr, ℕ, zero, suc, ◌<◌, List, [], ◌∷◌, length, Option, Some, None, refl, arith}
-use Rattle.std.specs.List.{AllZip, slice_index_or, slice_set}
+use Rattle.std.specs.List.{slice_index_or, slice_set}
 use Rattle.chess_repair.specs.Letters.{IsInLetters, IsRespelled, standard}
 use Rattle.chess_repair.specs.declared.letters.Letters.{Letters}
 

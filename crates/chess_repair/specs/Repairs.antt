@@ -75,7 +75,7 @@ abbrev pub padded : RepairKind → List ℕ → List ℕ
 padded k.Sign now = now
 padded _ now = 32 ∷ (now ++ 32 ∷ [])
 
--- the place of a repair is counted from the beginning of a text of so many bytes
+-- the place of a repair is counted from the beginning of a text of `size` bytes
 abbrev pub Rewrites : ℕ → List ℕ → List Repair → List ℕ → List ℕ → Type 0
 Rewrites size text [] out rest = text ≡ out ++ rest
 Rewrites size text (r ∷ rs) out rest =

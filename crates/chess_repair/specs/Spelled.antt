@@ -1,5 +1,5 @@
 -- What is written for a text.
---   IsRewritten  so many of its first bytes are written anew, with these repairs
+--   IsRewritten  its first `used` bytes are written anew, with these repairs
 use Rattle.std.specs.Prelude.{◌≡◌, ◌+◌, ℕ, List, length}
 use Rattle.chess_repair.specs.Repairs.{Rewrites}
 use Rattle.chess_repair.specs.declared.spelling.Spelled.{Spelled}

@@ -16,7 +16,7 @@ use std::alloc::{AllocError, Allocator};
 /// What is written before what is cut off.
 const CUT: &[u8] = b"cut: ";
 
-// How many bytes the word at the start of the text has: up to white space, a bracket or a brace.
+// How many bytes the word at the start of the text has: up to whitespace, a bracket or a brace.
 fn word_len(text: &[u8]) -> usize {
     text.iter()
         .take_while(|b| !is_blank(**b)

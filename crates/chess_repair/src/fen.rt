@@ -100,7 +100,7 @@ fn third(value: &[u8]) -> (usize, usize) {
     (value.len(), 0)
 }
 
-// The text with this put in for the bytes from a place on, so many of them.
+// The text with this put in for the `len` bytes from a place on.
 fn with<'a, A: Allocator>(
     alloc: &'a A,
     was: &[u8],
@@ -133,7 +133,7 @@ fn longer<'t, 'a, A: Allocator>(
     Ok(Some(MendedFen { was, text }))
 }
 
-// The tag with rights in the standard's letters for those from a place on, so many of them.
+// The tag with rights in the standard's letters for the `len` bytes from a place on.
 fn righted<'t, 'a, A: Allocator>(
     alloc: &'a A,
     was: &'t [u8],

@@ -4,7 +4,7 @@ ghost use Rattle.std.specs.Prelude.{◌≡◌, not};
 ghost use Rattle.std.specs.List.{list_all};
 ghost use Rattle.chess_items.specs.Items.{is_glyph, is_name_byte};
 
-/// White space: from the horizontal tab to the carriage return, and the space.
+/// Whitespace: from the horizontal tab to the carriage return, and the space.
 pub fn is_blank(b: u8) -> bool {
     matches!(b, 9..=13 | b' ')
 }
@@ -64,7 +64,7 @@ pub fn digits(bytes: &[u8]) -> usize {
     bytes.iter().take_while(|b| b.is_ascii_digit()).count()
 }
 
-/// The bytes after so many of them.
+/// The bytes after the first `len` of them.
 pub fn after(bytes: &[u8], len: usize) -> &[u8] {
     &bytes[len.min(bytes.len())..]
 }

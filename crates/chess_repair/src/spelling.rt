@@ -21,7 +21,7 @@ use std::marker::Model;
 /// The most bytes that a text between brackets has where it becomes a comment.
 const ASIDE: usize = 4_096;
 
-/// The last item but white space.
+/// The last item but whitespace.
 #[derive(Clone, Copy, PartialEq, Eq)]
 enum Last {
     /// None, or what says nothing of what may follow.
@@ -56,9 +56,9 @@ struct Spelling<'t, 'a, A: Allocator> {
     has_moves: bool,
     is_over: bool,
     last: Last,
-    /// Whether white space or a comment comes right before.
+    /// Whether whitespace or a comment comes right before.
     is_apart: bool,
-    /// Whether the last item but white space is a comment with a left brace in it.
+    /// Whether the last item but whitespace is a comment with a left brace in it.
     is_nested: bool,
 }
 
@@ -70,13 +70,13 @@ impl<'t, 'a, A: Allocator> Model for Spelling<'t, 'a, A> {
     ghost view = { λ s. s.pen };
 }
 
-// Whether the next bytes end a line with white space alone, and then the text ends or a tag begins.
+// Whether the next bytes end a line with whitespace alone, and then the text ends or a tag begins.
 fn ends_game(rest: &[u8]) -> bool {
     let next = after(rest, blanks(rest));
     next.is_empty() || opens_tag(next)
 }
 
-// Whether the text ends in white space that ends a line, or is empty.
+// Whether the text ends in whitespace that ends a line, or is empty.
 fn is_line_start(before: &[u8]) -> bool {
     let mut is_start = true;
     for b in before {
@@ -149,7 +149,7 @@ fn outer(text: &[u8]) -> Option<&[u8]> {
     Some(&text[..len.saturating_add(1).min(text.len())])
 }
 
-// What is at the end of an annotation that stands alone: signs of annotation or periods, and then white space, a bracket or the end.
+// What is at the end of an annotation that stands alone: signs of annotation or periods, and then whitespace, a bracket or the end.
 fn is_alone(rest: &[u8]) -> bool {
     let len = rest
         .iter()
@@ -256,7 +256,7 @@ impl<'t, 'a, A: Allocator> Spelling<'t, 'a, A> {
         self.pen.keep(len)
     }
 
-    // Keeps white space or a comment.
+    // Keeps whitespace or a comment.
     fn keep_apart(&mut self, len: usize) -> Result<(), AllocError>
         ensures { self.new ≡ self.old }
     {
@@ -627,7 +627,7 @@ impl<'t, 'a, A: Allocator> Spelling<'t, 'a, A> {
         self.mend(glyphs, RepairKind::Glyphs, &glyphs[..2])
     }
 
-    // What begins with another byte than those of words and white space.
+    // What begins with another byte than those of words and whitespace.
     fn sign(&mut self, rest: &[u8], b: u8) -> Result<(), AllocError>
         ensures { self.new ≡ self.old }
     {

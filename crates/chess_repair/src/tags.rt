@@ -145,7 +145,7 @@ fn rough_end(value: &[u8]) -> (usize, usize, TagFault) {
     }
 }
 
-// A tag with quotation marks: its name is what comes before the first, after so many bytes.
+// A tag with quotation marks: its name is what comes before the first, which is after `quote` bytes.
 fn quoted(line: &[u8], quote: usize) -> Option<Parts<'_>> {
     let (head, more) = line.split_at(quote.min(line.len()));
     let name = after(head, 1);

@@ -6,7 +6,7 @@
 --   most_repetitions    the most often a position has come up
 --   longest_quiet       the most plies in a row without a pawn's move or a capture, those before the start as its halfmove clock has them
 --   is_win_of, is_draw, is_open    the marker at a game's end is a win of that side, a draw, or open
---   agrees              the marker agrees with the board; marker_fits, with a board that stands so
+--   agrees              the marker agrees with the board; marker_fits, with a board of that status
 use Rattle.std.specs.Prelude.{ℕ, nat_lt, Bool, true, false, not, ◌||◌, if◌then◌else◌, Option, Some, None}
 use Rattle.chess_types.specs.declared.board.man.Colour.{Colour}
 use Rattle.chess_types.specs.declared.board.man.Colour.TheVariants.{White, Black}
@@ -28,7 +28,7 @@ is_over line = not (is_play (status line))
 abbrev pub first_over : Line → Option ℕ
 first_over line = first is_over line
 
--- an end of a line of so many plies, where it comes before the last
+-- an end of a line of `plies` plies, where it comes before the last
 abbrev pub played_on : Option Over → ℕ → Option Over
 played_on None plies = None
 played_on (Some over) plies = if nat_lt over.ply plies then Some over else None

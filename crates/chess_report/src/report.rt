@@ -35,7 +35,7 @@ pub struct Report {
     pub plies: u32,
     /// How the game ended, as its text says.
     pub marker: Outcome,
-    /// How the last position stands (FIDE Laws 5.1.1, 5.2.1, 5.2.2, 9.6).
+    /// The last position's status (FIDE Laws 5.1.1, 5.2.1, 5.2.2, 9.6).
     pub status: Status,
     /// The side that has mated the other there (FIDE Laws 1.4.1, 5.1.1).
     pub winner: Option<Colour>,
@@ -108,7 +108,7 @@ fn is_win_of(won: Option<Colour>, marker: Outcome) -> bool
     }
 }
 
-// Whether the marker goes with a board that stands so.
+// Whether the marker goes with a board of that status.
 fn fits(status: Status, won: Option<Colour>, marker: Outcome) -> bool
     ensures { result ≡ marker_fits status won marker }
 {

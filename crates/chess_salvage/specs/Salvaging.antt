@@ -1,11 +1,11 @@
 -- A game that is read from a text after its repair.
 --   CutsOff      a text is written anew once for each of these repairs, one after the other, from its first byte to its last
---   HoldsGame    strict reading finds a game at the text's start, and nothing but white space after it
---   HoldsNone    strict reading finds no game there, or more than white space after it
+--   HoldsGame    strict reading finds a game at the text's start, and nothing but whitespace after it
+--   HoldsNone    strict reading finds no game there, or more than whitespace after it
 --   most_cuts    how often a text is written anew, at most
 --   HoldsFound      the game of the last text; none where that has none, or was written anew as often as may be
 --   found_in     the game that was found, if one was
---   IsSalvaged   the first bytes of a text, so many, were written anew by the repairs, then once for each cut, and that text was read
+--   IsSalvaged   the first `used` bytes of a text were written anew by the repairs, then once for each cut, and that text was read
 use Rattle.std.specs.Prelude.{◌≡◌, ◌⊎◌, ℕ, ◌+◌, List, [], ◌∷◌, ◌++◌, length, Option, Some, None}
 use Rattle.chess_pgn.specs.Games.{Game}
 use Rattle.chess_pgn.specs.Reading.{BeginsWithGame, HasNoGame, IsWhite}

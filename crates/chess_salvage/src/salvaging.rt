@@ -41,7 +41,7 @@ fn place_before(repairs: &[Repair], place: usize) -> usize {
 }
 
 impl<'a, A: Allocator> Salvaged<'a, A> {
-    /// Where one of the cuts was made, in bytes of the text before all repairs; 0, where there are not so many. It is a place to be reported, which no
+    /// Where one of the cuts was made, in bytes of the text before all repairs; 0, where there is no such cut. It is a place to be reported, which no
     /// clause speaks of.
     pub fn place_of(&self, cut: usize) -> usize {
         let cuts = self.cuts.as_slice();
@@ -57,7 +57,7 @@ impl<'a, A: Allocator> Salvaged<'a, A> {
     }
 }
 
-// Whether a text is white space.
+// Whether a text is whitespace.
 fn is_white<A: Allocator>(alloc: &A, text: &[u8]) -> Result<bool, AllocError>
     ensures white { IfOk result (λ white. white ≡ true → IsWhite text.now) }
     ensures dark { IfOk result (λ white. white ≡ false → IsWhite text.now → ⊥) }

@@ -3,7 +3,7 @@
 --   counts_drawn     a line that counts as drawn though its last position has a legal move
 --   ended            the value of a line at which the game is over or drawn; none where play goes on
 --   greatest         the greatest of some numbers, at least one
---   value            the value of a line, searched to a depth, so many moves from the root
+--   value            the value of a line, searched to a depth, `distance` moves from the root
 --   worth            what a move is worth to the side that makes it
 -- A mate is worth 30,000 less the moves from the root to it, so that the nearest mate is the best; every other value lies far below.
 use Rattle.std.specs.Prelude.{ℕ, zero, suc, ◌+◌, Bool, ◌&&◌, ◌||◌, if◌then◌else◌, List, [], ◌∷◌, map, Option, Some, None, unwrap_or, ℤ, pos, neg_ℤ, ◌-ℤ◌, fold}

@@ -111,7 +111,7 @@ impl Slices {
         }
     }
 
-    /// Searches one root more, as `next` does, for which so many positions more may be asked for, and says whether it was searched: it is abandoned at the
+    /// Searches one root more, as `next` does, for which `budget` positions more may be asked for, and says whether it was searched: it is abandoned at the
     /// first position beyond them, and then all is as before but for the number of positions. The positions together are fewer than 2^64.
     #[tactic(auto, using(crate::proofs::WatchLemmas::at_most))]
     pub fn next_at_most<A: Allocator>(&mut self, line: &mut Line<'_, A>, budget: u64) -> bool

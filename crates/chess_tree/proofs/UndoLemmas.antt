@@ -7,7 +7,7 @@ use Rattle.chess_tree.specs.Forest.{Forest, Bare, Node, NodeParts, below_at, bel
 use Rattle.chess_tree.specs.Edits.{change_below, change_node, inside, parent, with_move, without_node}
 use Rattle.chess_tree.specs.GameTree.{TreeParts, added, at_path, changed, deleted, find, here, node_of, nodes_here, root_node}
 use Rattle.chess_tree.specs.Plays.{led_to}
-use Rattle.chess_tree.specs.Undo.{LosesOneAtMost, UndoesAdd, UndoesPlay, is_bare, undone}
+use Rattle.chess_tree.specs.Undo.{LosesOneAtMost, UndoesAdd, UndoesPlay, is_bare_node, undone}
 use Rattle.chess_tree.specs.WellFormed.{Leads}
 use Rattle.chess_tree.proofs.EditLemmas.{held_without}
 
@@ -62,12 +62,12 @@ child_below k Bare n h = absurd (omega arith)
 child_below zero (Node m nags comment below next) n h = refl
 child_below (suc k) (Node m nags comment below next) n h = child_below k next n (omega arith)
 
-bare_last : (m : MoveParts) (f : Forest) (n : NodeParts) → is_bare (unwrap_or (child (count f) (with_move m f)) n) ≡ true
+bare_last : (m : MoveParts) (f : Forest) (n : NodeParts) → is_bare_node (unwrap_or (child (count f) (with_move m f)) n) ≡ true
 bare_last m Bare n = refl
 bare_last m (Node k nags comment below next) n = bare_last m next n
 
 bare_from : (m : MoveParts) (path : List ℕ) (n : NodeParts) → Leads path n.below
-    → is_bare (node_of (path ++ count (below_at path n.below) ∷ []) (changed_node (change_below (with_move m) path) n)) ≡ true
+    → is_bare_node (node_of (path ++ count (below_at path n.below) ∷ []) (changed_node (change_below (with_move m) path) n)) ≡ true
 bare_from m [] n leads = bare_last m n.below (changed_node (with_move m) n)
 bare_from m (k ∷ path) n leads =
     let down = unwrap_or (child k n.below) n in
@@ -75,11 +75,11 @@ bare_from m (k ∷ path) n leads =
     let last = path ++ count (below_at path (below_child k n.below)) ∷ [] in
     let there = child_inside k (change_below (with_move m) path) n.below n (changed_node (change_below (with_move m) (k ∷ path)) n) leads.0 in
     let rest = bare_from m path down (subst (Leads path) (sym below) leads.1) in
-    ap (λ (x : NodeParts). is_bare (node_of last x)) there
-    ∙ ap (λ (x : Forest). is_bare (node_of (path ++ count (below_at path x) ∷ []) (changed_node (change_below (with_move m) path) down))) (sym below)
+    ap (λ (x : NodeParts). is_bare_node (node_of last x)) there
+    ∙ ap (λ (x : Forest). is_bare_node (node_of (path ++ count (below_at path x) ∷ []) (changed_node (change_below (with_move m) path) down))) (sym below)
     ∙ rest
 
-bare_added : (t : TreeParts) (m : MoveParts) → Leads t.path t.tree.below → is_bare (here (added m t)) ≡ true
+bare_added : (t : TreeParts) (m : MoveParts) → Leads t.path t.tree.below → is_bare_node (here (added m t)) ≡ true
 bare_added t m leads = bare_from m t.path (root_node t.tree) leads
 
 -- ---- the laws
@@ -110,7 +110,7 @@ none_held Bare e = refl
 none_held (Node m nags comment below next) e = absurd (omega (arith, eqb-true _ _ e))
 
 -- one node less, or none where there is no node to take out
-one_less : (t : TreeParts) (path : List ℕ) → t.path ≡ path → Leads t.path t.tree.below → is_bare (here t) ≡ true
+one_less : (t : TreeParts) (path : List ℕ) → t.path ≡ path → Leads t.path t.tree.below → is_bare_node (here t) ≡ true
     → ((deleted t).tree ≡ t.tree) ⊎ (moves_held t.tree.below ≡ moves_held (deleted t).tree.below + 1)
 one_less t [] is leads bare = inl (ap (λ (p : List ℕ). changed (change_node without_node p) t.tree) is)
 one_less t (k ∷ path) is leads bare =
@@ -119,7 +119,7 @@ one_less t (k ∷ path) is leads bare =
     let held : moves_held (below_at t.path t.tree.below) ≡ 0 = ap moves_held (sym (below_node t.path (root_node t.tree) leads)) ∙ none_held (here t).below none.1 in
     inr (omega (arith, held_without t.path t.tree.below leads (omega (arith, ap length is)), held))
 
-loses_one : (t : TreeParts) (was_added bare : Bool) → Leads t.path t.tree.below → is_bare (here t) ≡ bare
+loses_one : (t : TreeParts) (was_added bare : Bool) → Leads t.path t.tree.below → is_bare_node (here t) ≡ bare
     → ((if was_added && bare then deleted t else at_path (parent t.path) t).tree ≡ t.tree)
     ⊎ ((was_added ≡ true) × (bare ≡ true) × (moves_held t.tree.below ≡ moves_held (if was_added && bare then deleted t else at_path (parent t.path) t).tree.below + 1))
 loses_one t false bare leads is = inl refl
@@ -127,4 +127,4 @@ loses_one t true false leads is = inl refl
 loses_one t true true leads is = elim (one_less t t.path refl leads is) [ (inl same) ↦ inl same | (inr less) ↦ inr (refl, refl, less) ]
 
 pub loses_one_at_most : LosesOneAtMost
-loses_one_at_most was_added t leads = loses_one t was_added (is_bare (here t)) leads refl
+loses_one_at_most was_added t leads = loses_one t was_added (is_bare_node (here t)) leads refl

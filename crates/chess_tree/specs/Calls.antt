@@ -65,7 +65,7 @@ pub record Unannotates (old : TreeParts) (result : Result (Unit {0}) TreeFault) 
   pub err : OnErr result (new ≡ old)
   pub at_root : MatchResult result (λ _. 0 < length old.path) (λ fault. (fault ≡ AtRoot) × (old.path ≡ []))
 
--- the node has the words of that text as its comment, unless a right brace stands in it
+-- the node has the words of that text as its comment, unless a right brace is in it
 pub record Comments (text : List ℕ) (old : TreeParts) (result : Result (Unit {0}) TreeFault) (new : TreeParts) : Type 0 where
   pub ok : OnOk result (new ≡ commented_here (normalised text) old)
   pub line : line_to new ≡ line_to old

@@ -2,7 +2,7 @@
 --   Forest      nodes side by side, each with the nodes below it; the first is the main continuation
 --   NodeParts   a node by itself: the move that leads to it, unless it is the root; its notes; what is below it
 --   append      the nodes of two forests, side by side
---   count       how many nodes stand side by side
+--   count       how many nodes are side by side
 --   child       one of them, by its place from 0
 --   moves_held  how many nodes there are
 --   most_moves  the most nodes of a tree
@@ -27,7 +27,7 @@ abbrev pub append : Forest → Forest → Forest
 append Bare f = f
 append (Node m nags comment below next) f = Node m nags comment below (append next f)
 
--- how many nodes stand side by side
+-- how many nodes are side by side
 abbrev pub count : Forest → ℕ
 count Bare = 0
 count (Node m nags comment below next) = suc (count next)

@@ -1,5 +1,5 @@
 -- Taking a played move back, with what `play` answered: whether it added a node.
---   is_bare     nothing hangs on a node: no annotation number, no comment and no node below it
+--   is_bare_node  nothing hangs on a node: no annotation number, no comment and no node below it
 --   undone      the cursor on the parent; the node that it leaves taken out where it was added and is bare
 --   UndoesPlay, UndoesAdd     the laws: after the move all is as it was before it
 --   LosesOneAtMost            whatever came between: at most that one node goes
@@ -12,12 +12,12 @@ use Rattle.chess_tree.specs.Plays.{is_new, played}
 use Rattle.chess_tree.specs.WellFormed.{Leads}
 
 -- no annotation number, no comment and no node below it
-abbrev pub is_bare : NodeParts → Bool
-is_bare n = (length n.nags == 0) && ((length n.comment == 0) && (count n.below == 0))
+abbrev pub is_bare_node : NodeParts → Bool
+is_bare_node n = (length n.nags == 0) && ((length n.comment == 0) && (count n.below == 0))
 
 -- to the parent; a bare node that was added is taken out
 abbrev pub undone : Bool → TreeParts → TreeParts
-undone was_added t = if was_added && is_bare (here t) then deleted t else at_path (parent t.path) t
+undone was_added t = if was_added && is_bare_node (here t) then deleted t else at_path (parent t.path) t
 
 -- a move is played and undone, with whether a node was added for it: the tree and the cursor, and so the line to it, are as they were before
 abbrev pub UndoesPlay : Type 0
@@ -32,4 +32,4 @@ abbrev pub LosesOneAtMost : Type 0
 LosesOneAtMost =
     (was_added : Bool) (t : TreeParts) → Leads t.path t.tree.below
     → ((undone was_added t).tree ≡ t.tree)
-    ⊎ ((was_added ≡ true) × (is_bare (here t) ≡ true) × (moves_held t.tree.below ≡ moves_held (undone was_added t).tree.below + 1))
+    ⊎ ((was_added ≡ true) × (is_bare_node (here t) ≡ true) × (moves_held t.tree.below ≡ moves_held (undone was_added t).tree.below + 1))

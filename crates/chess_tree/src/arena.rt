@@ -16,6 +16,7 @@ mod siblings;
 pub(crate) mod slot;
 
 use crate::node::NodeRef;
+use chess_draws::make_room;
 use chess_types::Move;
 use free::{let_go, put};
 use node_id::NodeId;
@@ -196,7 +197,7 @@ impl<'a, A: Allocator> Arena<'a, A> {
         ensures err { OnErr result (self.new ≡ self.old) }
     {
         let here = self.here;
-        self.trail.reserve(1)?;
+        make_room(&mut self.trail, 4)?;
         let place = self.nodes.child_count(here);
         let number = put(&mut self.nodes, &mut self.free, played, here, place)?;
         if let Err(fault) = self.nodes.push_child(here, number) {

@@ -15,7 +15,7 @@ pub enum TreeFault {
     /// The tree holds 1,000,000 moves.
     #[error("the tree holds 1000000 moves")]
     Full = 3,
-    /// A right brace stands in the comment, which would end it (PGN 5).
+    /// A right brace is in the comment, which would end it (PGN 5).
     #[error("a right brace stands in the comment")]
     BadComment = 4,
     /// There is no memory.

@@ -103,7 +103,7 @@ abbrev pub after_searchmoves : List (List ℕ) → List (List ℕ) → List (Lis
 after_searchmoves found [] = found
 after_searchmoves found (word ∷ words) = if is_searchmoves word then after_searchmoves words words else after_searchmoves found words
 
--- the text stands among the words before the first that has a meaning of its own
+-- the text is among the words before the first that has a meaning of its own
 abbrev pub is_listed : List ℕ → List (List ℕ) → Bool
 is_listed text [] = false
 is_listed text (word ∷ words) = if is_name word then false else bytes_eq word text || is_listed text words

@@ -1,7 +1,7 @@
 -- A slice that a watch may have abandoned.
 --   root_size    how many positions plain minimax asks for in the next root of a search, where one is left
 --   slice_size   the same of a session's slice
---   IsWatched    a slice asked for so many positions, and was made or abandoned as the watch said
+--   IsWatched    a slice asked for `nodes` positions, and was made or abandoned as the watch said
 use Rattle.std.specs.Prelude.{◌≡◌, ℕ, zero, suc, ◌-◌, nat_lt, Bool, true, false, List, take, drop, length, Option, Some, None}
 use Rattle.chess_types.specs.board.MoveParts.{MoveParts}
 use Rattle.chess_types.specs.board.Lines.{Line as GameLine}

@@ -7,6 +7,6 @@ pub enum Event<'a> {
     Line(&'a [u8]),
     /// There is time to search one root more.
     Slice,
-    /// The clock reads so many milliseconds, from any beginning.
+    /// What the clock reads, in milliseconds from any beginning.
     Moment(u64),
 }

@@ -40,7 +40,7 @@ pub(crate) fn after_searchmoves(text: &[u8]) -> &[u8]
     found
 }
 
-/// Whether the word stands among those before the first name.
+/// Whether the word is among those before the first name.
 pub(crate) fn is_listed(text: &[u8], list: &[u8]) -> bool
     ensures { result ≡ is_listed text.now (words gaps list.now) }
 {

@@ -79,7 +79,7 @@ fn fen_text<'a, A: Allocator>(alloc: &'a A, text: &[u8]) -> Result<Vec<u8, &'a A
     Ok(fen)
 }
 
-// The line that begins in the position whose FEN stands before the first `moves`.
+// The line that begins in the position whose FEN comes before the first `moves`.
 fn begin_in<'a, A: Allocator>(
     alloc: &'a A,
     table: &'a KeyTable,

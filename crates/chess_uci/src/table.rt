@@ -3,7 +3,7 @@
 ghost use Rattle.std.specs.Prelude.{◌≡◌, map};
 ghost use Rattle.chess_uci.specs.Tables.{beside};
 
-/// What stands beside the word in the table, at its first place.
+/// What is beside the word in the table, at its first place.
 pub(crate) fn beside<T: Copy>(table: &[(&[u8], T)], word: &[u8]) -> Option<T>
     ensures { result ≡ beside (map (λ row. (row.0.now, row.1)) table.now) word.now }
 {

@@ -59,7 +59,7 @@ impl<'t, 'k, 'a, A: Allocator> Model for Replay<'t, 'k, 'a, A> {
     ghost invariant = { λ r. AreReplayable r.line.line r.walk × (r.line.looked ≡ 0) };
 }
 
-// Takes moves back until there are no more than so many.
+// Takes moves back until there are no more than `plies`.
 fn back_to<A: Allocator>(line: &mut Line<'_, A>, plies: u32)
     requires still { line.old.looked ≡ 0 }
     ensures line { line.new.line ≡ shortened line.old.line plies }
@@ -71,7 +71,7 @@ fn back_to<A: Allocator>(line: &mut Line<'_, A>, plies: u32)
     }
 }
 
-// Takes back what doesn't lead to a node that so many moves lead to, and makes the move before it again where that is asked.
+// Takes back what doesn't lead to a node that `depth` moves lead to, and makes the move before it again where that is asked.
 fn go_before<A: Allocator>(line: &mut Line<'_, A>, depth: u32, again: Option<Move>)
     requires still { line.old.looked ≡ 0 }
     requires deep { 1 ≤ depth }

@@ -9,7 +9,7 @@ use rand_core::utils::NextWord;
 use rand_pcg::Pcg32;
 use std::alloc::Allocator;
 
-/// What stands in a game beside its own line.
+/// What a game has beside its own line.
 #[derive(Clone, Copy)]
 pub enum Kind {
     Plain,
@@ -21,7 +21,7 @@ pub enum Kind {
 /// The plies of a game's own line.
 const PLIES: u32 = 80;
 
-/// Every so many plies stands a variation or a comment.
+/// How many plies there are from one variation or comment to the next.
 const STEP: u32 = 8;
 
 const WORDS: [&str; 8] = [
@@ -49,7 +49,7 @@ impl<'a, A: Allocator> Scribe<'a, A> {
         word.checked_rem(limit).unwrap_or(0)
     }
 
-    // Adds so many random moves, while there are any.
+    // Adds `plies` random moves, while there are any.
     fn wander(&mut self, plies: u32) {
         for _ in 0..plies {
             let moves = self.analysis.moves();

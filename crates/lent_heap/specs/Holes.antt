@@ -39,7 +39,7 @@ abbrev pub joined_first : Span → List Span → List Span
 joined_first s [] = s ∷ []
 joined_first s (h ∷ hs) = if s.0 + s.1 == h.0 then (s.0, s.1 + h.1) ∷ hs else s ∷ h ∷ hs
 
--- the holes once s is free: it stands in its place, joined to the holes that it touches
+-- the holes once s is free: it is in its place, joined to the holes that it touches
 abbrev pub released : Span → List Span → List Span
 released s [] = s ∷ []
 released s (h ∷ hs) = if nat_lt s.0 h.0 then joined_first s (h ∷ hs) else (if h.0 + h.1 == s.0 then joined_first (h.0, h.1 + s.1) hs else h ∷ released s hs)
@@ -86,7 +86,7 @@ abbrev pub Precedes : Span → List Span → Type 0
 Precedes s [] = ⊤
 Precedes s (h ∷ hs) = s.0 < h.0
 
--- s stands between c and the holes after it
+-- s is between c and the holes after it
 abbrev pub Inserts : Span → Span → List Span → List Span → Type 0
 Inserts s c after after' = (after' ≡ s ∷ after) × (c.0 + extent c.1 ≤ s.0) × Precedes s after
 

@@ -1,10 +1,10 @@
-//! The heap of `lent_heap` for a program in C that tests it: blocks are taken and given back, and what the heap says of itself is told after each.
+//! The heap of `lent_heap` for a program in C that tests it: blocks are taken and given back, and what the heap says of itself is reported after each.
 #![tactic(auto)]
 
 use lent_heap::{LentHeap, Memory};
 use std::alloc::Global;
 
-/// A block of so many bytes is taken; or, for 0, the block at that place among those held, from 0, is given back.
+/// A block of `size` bytes is taken; or, for 0, the block at place `at` among those held, from 0, is given back.
 #[repr(C)]
 #[derive(Clone, Copy)]
 pub struct Step {
@@ -39,7 +39,7 @@ fn is_done<'h>(heap: &'h LentHeap, held: &mut Held<'h>, step: Step) -> bool {
     }
 }
 
-/// Does the steps over the memory, one after another, up to one that can't be done, and hands out the heap's counts after each. How many were done.
+/// Does the steps over the memory, one after another, up to one that can't be done, and writes the heap's counts after each. How many were done.
 #[unsafe(no_mangle)]
 pub extern "C" fn lent_heap_run(
     alloc: Global,

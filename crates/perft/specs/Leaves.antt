@@ -1,5 +1,5 @@
 -- The leaves of the tree of legal moves: the field's own check of a move list ("perft").
---   leaves_of   the positions so many plies on, once for each line of legal moves that leads there
+--   leaves_of   the positions a given number of plies on, once for each line of legal moves that leads there
 use Rattle.std.specs.Prelude.{ℕ, zero, suc, sum_by}
 use Rattle.chess_types.specs.board.Position.{PositionParts}
 use Rattle.chess_types.specs.board.After.{after}

@@ -17,7 +17,7 @@ pub enum LastPly {
     Made,
 }
 
-/// How many positions stand one ply after this one: each legal move is made and taken back.
+/// How many positions come one ply after this one: each legal move is made and taken back.
 fn make_each(live: &mut LiveWith<Nothing>) -> u64
     requires clock { live.old.position.clock + 1 ≤ 1000000 }
     requires number { live.old.position.number + 1 ≤ 1000000 }
@@ -36,7 +36,7 @@ fn make_each(live: &mut LiveWith<Nothing>) -> u64
     number
 }
 
-/// How many positions stand one ply after this one, each legal move counted or made.
+/// How many positions come one ply after this one, each legal move counted or made.
 #[inline(always)]
 fn last_ply(live: &mut LiveWith<Nothing>, last: LastPly) -> u64
     requires clock { live.old.position.clock + 1 ≤ 1000000 }
@@ -51,7 +51,7 @@ fn last_ply(live: &mut LiveWith<Nothing>, last: LastPly) -> u64
     }
 }
 
-/// How many positions stand so many plies after this one, each line of legal moves counted by itself: 1 at depth 0. A count over
+/// How many positions come `depth` plies after this one, each line of legal moves counted by itself: 1 at depth 0. A count over
 /// 2^64 - 1 is reported as that. The halfmove clock and the fullmove number plus the depth are at most 1,000,000, so that both have room
 /// for each ply's move. Each ply lies on the stack with its list of moves. All is as before but for the ticks.
 pub fn leaves(live: &mut LiveWith<Nothing>, depth: u32, last: LastPly) -> u64

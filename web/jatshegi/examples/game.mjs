@@ -1,4 +1,4 @@
-// A game to mate: moves in any spelling that a program has, and how the game stands.
+// A game to mate: moves in any spelling that a program has, and the game's status.
 import { Chess, ChessError } from 'jatshegi';
 
 const chess = new Chess();

@@ -295,7 +295,7 @@ export class Chess {
     this.#ask(path === '-' ? 'start' : `goto ${path}`);
   }
 
-  // ---- How the game stands.
+  // ---- The game's status.
 
   /** `mate`, `stalemate`, `dead`, `fivefold`, `seventyfive` or `play`. */
   status() {

@@ -7,10 +7,10 @@ import { FAULTS, MEMORY, MORE, NONE, OK, OUTCOMES } from './memory.js';
 
 const FIRST = 1 << 19;
 const MOST = 1 << 30;
-// As many bytes decide what a game is repaired to.
+// This number of bytes decides what a game is repaired to.
 const DECIDED = 1_179_648;
 const [LINE_FEED, RETURN, SPACE, BRACKET] = [10, 13, 32, 91];
-// A word or two after an empty line have so many bytes, with those of both line ends, and what follows them up to white space.
+// A word or two after an empty line have this number of bytes, with those of both line ends, and what follows them up to whitespace.
 const FIRST_WORDS = 7;
 
 // The kinds of repairs by their numbers.
@@ -115,8 +115,8 @@ const beginningOf = (bytes) => {
   return Math.min(at, bytes.length);
 };
 
-// The tags of a game, as `Game.tags`, which has so many bytes at an address and ended so. No tag comes after a move: where the module reads a game of some first
-// bytes and finds a move in it, its tags are those of the whole, but for the result; else the whole is read.
+// The tags of a game, as `Game.tags`, which has `length` bytes at an address and ended with `result`. No tag comes after a move: where the module
+// reads a game of some first bytes and finds a move in it, its tags are those of the whole, but for the result; else the whole is read.
 const tagsAt = (at, length, result) => {
   const { bytes } = theMemory();
   for (const many of [beginningOf(bytes.subarray(at, at + length)), length]) {

@@ -47,7 +47,7 @@ const NAMES_NONE = new Map([[FORM, 'refused 1 Form'], [ILLEGAL, 'refused 2 Illeg
 
 const NEVER = 4294967295;
 
-/** How a game stands, by the module's number of it; the draws that may be claimed, and what sort of move one is, by their bits. */
+/** A game's status, by the module's number of it; the draws that may be claimed, and what sort of move one is, by their bits. */
 export const OUTCOMES = ['mate', 'stalemate', 'dead', 'fivefold', 'seventyfive', 'play'];
 const CLAIMS = ['threefold', 'fifty'];
 const KINDS = ['capture', 'enPassant', 'kingSide', 'queenSide', 'pawn'];
@@ -130,7 +130,7 @@ export class Memory {
     return BigInt(this.cells + place);
   }
 
-  /** The bytes that the last call handed out; they are there until the next. */
+  /** The bytes that the last call wrote; they are there until the next. */
   handed() {
     return this.bytes.subarray(this.answers.at, this.answers.at + this.number(COUNT));
   }
@@ -239,7 +239,7 @@ export class Session {
     return memory.view.getInt32(memory.cells + FLAG, true);
   }
 
-  // So many moves at an address, in long algebraic notation.
+  // The moves at an address, as many as the last call counted, in long algebraic notation.
   #lans(at) {
     const { memory } = this;
     return Array.from({ length: memory.number(COUNT) }, (_, i) => memory.lanAt(at + A_MOVE * i));
@@ -255,7 +255,7 @@ export class Session {
     return this.memory.handed().slice();
   }
 
-  /** How the game stands, by its name. */
+  /** The game's status, by its name. */
   status() {
     return OUTCOMES[this.#number('jatshegi_board_outcome')];
   }

@@ -80,7 +80,7 @@ const answered = (action) => {
 };
 
 test('300 random scripts beside the board', () => {
-  // (eight at a time over boards side by side, so that none hears what another was told)
+  // (eight at a time over boards side by side, so that none gets what another was given)
   for (let from = 0; from < 300; from += 8) {
     const scripts = Array.from({ length: Math.min(8, 300 - from) }, (_, i) => ({ chess: new Chess(), by: chance(from + i), lines: ['new'], answers: ['ok'] }));
     for (let step = 0; step < 40; step++) {

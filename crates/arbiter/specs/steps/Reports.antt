@@ -22,7 +22,7 @@ use Rattle.arbiter.specs.Rows.{colour_text, fen_tag, is_another, is_changed, is_
 abbrev pub is_unended : Report → Bool
 is_unended report = is_open report.marker && not (is_play report.status)
 
--- the number of the move that is made after so many others: White and Black move in turn, and a move of White and the next of Black have one number
+-- the number of the move that is made after `plies` others: White and Black move in turn, and a move of White and the next of Black have one number
 abbrev pub number_of_move : PositionParts → ℕ → ℕ
 number_of_move start plies = start.number + (plies + colour_number start.side) / 2
 

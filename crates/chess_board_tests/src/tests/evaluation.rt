@@ -27,7 +27,7 @@ const WORTHS: &[(u8, &str, i32, i32)] = &[
     (b'k', "d5", -36, 60),
 ];
 
-/// Whether the man of that letter is worth so much there in the middlegame and in the endgame.
+/// Whether the man of that letter is worth `in_middle` there in the middlegame and `at_end` in the endgame.
 fn is_worth(rt: &impl Abort, letter: u8, name: &str, in_middle: i32, at_end: i32) -> bool {
     let man = Man::of_letter(letter).expect(rt, "a man's letter");
     let at = square(rt, name);

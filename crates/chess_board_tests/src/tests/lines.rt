@@ -72,7 +72,7 @@ enum Row {
     /// How many legal moves there are.
     Moves(usize),
     Count(u32),
-    /// The last count compared at least and at most so many plies.
+    /// The least and the most plies that the last count may have compared.
     Compared(u32, u32),
     Status(Status),
     Claims(Claims),
@@ -332,7 +332,7 @@ fn push_until_refused<A: Allocator>(rt: &impl Abort, line: &mut Line<A>) -> Opti
     requires none { line.old.looked ≡ 0 }
     ensures none { line.new.looked ≡ 0 }
 {
-    for number in 0..400usize {
+    for number in 0..1000usize {
         let m = named(rt, ROUND[number % 4]);
         let plies = line.plies();
         if line.push(m) == Err(LineFault::Memory) {
@@ -353,7 +353,7 @@ fn refused<A: Allocator>(rt: &impl Abort, line: &mut Line<A>) -> Move
     m
 }
 
-/// Pushes rounds while so many bytes of a heap are taken, until a push finds no memory; the same push answers Ok when they are free.
+/// Pushes rounds while `taken` bytes of a heap are taken, until a push finds no memory; the same push answers Ok when they are free.
 fn push_without_memory(rt: &impl Abort, heap: &LocalHeap, taken: usize) -> Result<(), Fail> {
     let table = KeyTable::new([1; 768]);
     let mut line = begin(rt, heap, &table);

@@ -65,7 +65,7 @@ const FAULTS: [([Option<ErrorKind>; 2], Result<usize, Failed>, usize); 6] = [
     ),
 ];
 
-/// Whether a stream over one with these faults answers so at first, after so many calls.
+/// Whether a stream over one with these faults answers so at first, after `calls` calls.
 fn is_read(faults: [Option<ErrorKind>; 2], answer: Result<usize, Failed>, calls: usize) -> bool {
     let mut source = FromRead::new(Faulty::new(faults));
     let fresh = !source.has_failed();
@@ -83,7 +83,7 @@ fn only_an_interrupted_read_is_tried_again(rt: HostRuntime) {
     }
 }
 
-/// Whether a stream over one with these faults answers so at first, after so many calls.
+/// Whether a stream over one with these faults answers so at first, after `calls` calls.
 fn is_written(faults: [Option<ErrorKind>; 2], answer: Result<usize, Failed>, calls: usize) -> bool {
     let mut sink = ToWrite::new(Faulty::new(faults));
     let fresh = !sink.has_failed();

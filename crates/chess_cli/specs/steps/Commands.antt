@@ -1,6 +1,6 @@
 -- What a command of the code asks for.
 --   request_of    the request that the code passes
---   later_alone   a command that stands alone, of those whose words come later in `alone_named`
+--   later_alone   a command of one word, of those whose words come later in `alone_named`
 use Rattle.std.specs.Prelude.{ℕ, if◌then◌else◌, List, Option, Some, None, codes}
 use Rattle.std.specs.Str.{bytes_eq}
 use Rattle.chess_cli.specs.declared.board_command.command.Command.{Command}
@@ -38,7 +38,7 @@ request_of Pgn = asks.Pgn
 request_of Unknown = asks.Unknown
 request_of Malformed = asks.Malformed
 
--- the later words of the commands that stand alone
+-- the later words of the commands of one word
 abbrev pub later_alone : List ℕ → Option asks.Request
 later_alone word =
     if bytes_eq word (codes "end") then Some asks.End

@@ -53,7 +53,7 @@ pub enum Command<'a> {
     Nag(u8),
     /// How often the position has come up.
     Count,
-    /// How the game stands.
+    /// The game's status.
     Status,
     /// The draws that may be claimed.
     Claims,
@@ -119,7 +119,7 @@ fn only_word(rest: &[u8]) -> Option<&[u8]>
     }
 }
 
-// The command that stands alone, by its word: of those that come later.
+// The command of one word, by that word: of those that come later.
 fn later_alone<'a>(word: &[u8]) -> Option<Command<'a>>
     ensures { option_map request_of result ≡ later_alone word.now }
 {
@@ -144,7 +144,7 @@ fn later_alone<'a>(word: &[u8]) -> Option<Command<'a>>
     }
 }
 
-// The command that stands alone, by its word.
+// The command of one word, by that word.
 fn standing_alone<'a>(word: &[u8]) -> Option<Command<'a>>
     ensures { option_map request_of result ≡ alone_named word.now }
 {

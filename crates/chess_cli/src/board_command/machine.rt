@@ -188,8 +188,8 @@ impl<'k, A: Allocator> Board<'k, A> {
         chess_fen::write(&self.analysis.position())
     }
 
-    /// The text by which the Laws tell the position at the cursor apart (FIDE Laws 9.2.3): the first four fields of its FEN, with the en passant target only where
-    /// a legal move captures on it.
+    /// The text that shows whether another position is the same as the one at the cursor (FIDE Laws 9.2.3): the first four fields of its FEN, with the
+    /// en passant target only where a legal move captures on it.
     pub fn identity_text(&self) -> ArrayString<128>
         ensures { result.bytes ≡ identity (last (line_to self.now)) }
     {
@@ -212,7 +212,7 @@ impl<'k, A: Allocator> Board<'k, A> {
         self.analysis.count()
     }
 
-    /// How the game stands at the cursor (FIDE Laws 5.1.1, 5.2.1, 5.2.2, 9.6).
+    /// The game's status at the cursor (FIDE Laws 5.1.1, 5.2.1, 5.2.2, 9.6).
     pub fn outcome(&mut self) -> Status
         ensures value { result ≡ status (line_to self.old) }
         ensures as_before { self.new ≡ self.old }
@@ -497,7 +497,7 @@ impl<'k, A: Allocator> Board<'k, A> {
         page.put_line(Buffer::new().format(self.analysis.count()));
     }
 
-    // How the game stands.
+    // The game's status.
     fn status<B: Allocator>(&mut self, page: &mut OutputBuffer<B>)
         requires room { length page.old + 2600 ≤ 65536 }
         ensures text { page.new ≡ page.old ++ (status_text (status (line_to self.old)) ++ 10 ∷ []) }

@@ -20,7 +20,7 @@ fn is_number(word: &[u8]) -> bool
     are_digits(word) && !word.is_empty() && word.len() <= DIGITS
 }
 
-/// The number of one to six decimal digits that the word writes; zeros may stand first.
+/// The number of one to six decimal digits that the word writes; zeros may come first.
 pub fn number_in(word: &[u8]) -> Option<u32>
     ensures { result ≡ number_in word.now }
 {

@@ -42,7 +42,7 @@ pub fn board_with<A: Allocator, R: Source, W: Sink>(
     board_within(alloc, reader, writer, table, READS)
 }
 
-/// `board_with`, with at most so many reads instead of 2^40: for a caller who wants to come back to other work.
+/// `board_with`, with at most `reads` reads instead of 2^40: for a caller who wants to come back to other work.
 pub fn board_within<A: Allocator, R: Source, W: Sink>(
     alloc: A,
     reader: &mut R,

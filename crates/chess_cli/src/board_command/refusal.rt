@@ -23,7 +23,7 @@ pub enum Refusal {
     Ambiguous,
     /// The tree holds 1,000,000 moves.
     Full,
-    /// A right brace stands in the comment.
+    /// A right brace is in the comment.
     BadComment,
     /// There is no memory.
     Memory,

@@ -133,7 +133,7 @@ const SEVERAL_WRITTEN: &[Written] = &[
     (b"y", b"?", b"0-1", b"", b"1. d4 0-1"),
 ];
 
-/// What is written where so many bytes were read.
+/// What is written where `bytes` bytes were read.
 fn written_of(bytes: u64) -> &'static [Written] {
     let mut games = 0usize;
     for whole in WHOLE {

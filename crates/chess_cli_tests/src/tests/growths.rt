@@ -49,7 +49,7 @@ fn take_all_but<'h>(
     Ok(taken)
 }
 
-/// Gives some lines, then one while the heap has but so many bytes left, and then other lines.
+/// Gives some lines, then one while the heap has but `left` bytes left, and then other lines.
 #[derive(Drop)]
 struct Starving<'h, 't> {
     heap: &'h LocalHeap,

@@ -74,7 +74,7 @@ fn any_keys_serve_a_session(rt: HostRuntime) {
     }
 }
 
-/// How often a text stands in another.
+/// How often a text occurs in another.
 fn count_of(text: &[u8], part: &[u8]) -> usize {
     text.windows(part.len().max(1))
         .filter(|w| *w == part)

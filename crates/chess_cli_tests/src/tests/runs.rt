@@ -124,7 +124,7 @@ fn stops_where_the_room_ends(rt: HostRuntime) -> Result<(), Fail> {
     Ok(())
 }
 
-/// Gives so many times one letter, and then a line feed and a line of its own, a thousand bytes at a call.
+/// Gives one letter `left` times, and then a line feed and a line of its own, a thousand bytes at a call.
 #[derive(Drop)]
 struct Letters {
     left: usize,

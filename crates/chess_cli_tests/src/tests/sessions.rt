@@ -5,7 +5,7 @@ use std::alloc::Allocator;
 use std::process::Abort;
 use std::test::Fail;
 
-/// A clock that reads so many milliseconds more at each call.
+/// A clock that reads `step` milliseconds more at each call.
 #[derive(Clone, Copy, Drop)]
 pub struct Ticking {
     reading: u64,

@@ -8,7 +8,7 @@ use std::alloc::Allocator;
 use std::process::Abort;
 use std::test::Fail;
 
-/// Gives a text again and again, so many bytes in all, as many at a call as there is room for.
+/// Gives a text again and again, `left` bytes in all, as many at a call as there is room for.
 #[derive(Drop)]
 struct Repeated {
     text: &'static [u8],
@@ -86,7 +86,7 @@ impl Sink for Counted {
     }
 }
 
-/// So many bytes of a text again and again are answered by so many bytes and lines, and no more memory is held than at the beginning.
+/// `given` bytes of a text again and again are answered by `bytes` bytes in `lines` lines, and no more memory is held than at the beginning.
 fn assert_counted<A: Allocator>(
     rt: &impl Abort,
     alloc: A,
@@ -117,7 +117,7 @@ fn a_million_lines_in_little_memory(rt: HostRuntime) -> Result<(), Fail> {
     Ok(())
 }
 
-/// An input without end is read so many times and no more.
+/// An input without end is read as often as is allowed, and no more.
 #[test]
 fn stops_after_the_most_reads(rt: HostRuntime) {
     let mut reader = Repeated::new(b"\n", u64::MAX);
@@ -158,7 +158,7 @@ fn too_large(place: u64) -> Ended {
     })
 }
 
-/// White space is no game, however much of it; a comment and a line of moves that don't end are too large.
+/// Whitespace is no game, however much of it; a comment and a line of moves that don't end are too large.
 #[test]
 fn games_without_end(rt: HostRuntime) {
     let mut writer = Counted::new();
@@ -177,7 +177,7 @@ fn games_without_end(rt: HostRuntime) {
     assert_eq!(rt; writer.lines, 1_000_000);
 }
 
-/// What the board answers where a byte stands in a comment, in a FEN and alone in a line.
+/// What the board answers where a byte is in a comment, in a FEN and alone in a line.
 fn answers(byte: u8) -> &'static [u8] {
     match byte {
         b'\n' => b"ok\nrefused 6 Command\nrefused 1 Fields\nrefused 6 Command\n1\n",
@@ -202,7 +202,7 @@ fn each_byte_in_a_line(rt: HostRuntime) {
     }
 }
 
-/// How a run ends where a byte stands in a tag's value and in a comment.
+/// How a run ends where a byte is in a tag's value and in a comment.
 fn ending(byte: u8) -> Ended {
     match byte {
         b'"' | b'\n' => Ended::Input(PgnFault {

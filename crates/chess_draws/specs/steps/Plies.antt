@@ -13,13 +13,13 @@ use Rattle.chess_types.specs.board.Lines.{play}
 use Rattle.chess_types.specs.board.Repetition.{counting_target}
 use Rattle.chess_play.specs.LiveParts.{LiveParts}
 use Rattle.chess_play.specs.Records.{record_of, IsBefore}
-use Rattle.chess_draws.specs.declared.ply.Ply.{Ply}
+use Rattle.chess_draws.specs.steps.KeptPlies.{PlyParts}
 use Rattle.chess_draws.specs.declared.repetition_key.RepetitionKey.{RepetitionKey}
 use Rattle.chess_draws.specs.steps.RepetitionKeys.{IsKeyOf}
 use Rattle.chess_draws.specs.Pushes.{most_plies}
 
 -- the ply is that of a legal move in the position, between squares of the board
-pub record IsPly (p : PositionParts) (ply : Ply) : Type 0 where
+pub record IsPly (p : PositionParts) (ply : PlyParts) : Type 0 where
   pub target : ply.target ≡ counting_target p
   pub past : ply.past ≡ record_of p ply.past.played
   pub from : ply.past.played.from < 64
@@ -27,23 +27,23 @@ pub record IsPly (p : PositionParts) (ply : Ply) : Type 0 where
   pub legal : is_legal p ply.past.played ≡ true
 
 -- the position is the one after the ply's move
-pub record FitsPly (now : PositionParts) (ply : Ply) : Type 0 where
+pub record FitsPly (now : PositionParts) (ply : PlyParts) : Type 0 where
   pub before : PositionParts
   pub is_before : IsBefore now ply.past before
   pub target : ply.target ≡ counting_target before
 
 -- each ply is that of a move in the position to which the plies before it lead
-abbrev pub ArePlies : PositionParts → List Ply → Type 0
+abbrev pub ArePlies : PositionParts → List PlyParts → Type 0
 ArePlies p [] = ⊤
 ArePlies p (ply ∷ plies) = IsPly p ply × ArePlies (after p ply.past.played) plies
 
 -- the move of a ply
-abbrev pub move_of : Ply → MoveParts
+abbrev pub move_of : PlyParts → MoveParts
 move_of ply = ply.past.played
 
 -- the position in which the line begins is well formed, with the counters of a FEN; each ply has a legal move; what is kept of
 -- the last position is that after all of them
-pub record IsLine (start : PositionParts) (plies : List Ply) (live : LiveParts) (here : RepetitionKey) : Type 0 where
+pub record IsLine (start : PositionParts) (plies : List PlyParts) (live : LiveParts) (here : RepetitionKey) : Type 0 where
   pub well_formed : IsWellFormed start
   pub clock : start.clock ≤ 99999
   pub number : start.number ≤ 99999
@@ -52,7 +52,7 @@ pub record IsLine (start : PositionParts) (plies : List Ply) (live : LiveParts) 
   pub here_is : IsKeyOf here live.position
 
 -- at most 20,000 plies, and at most 16 more that are only looked at
-pub record IsHeld (start : PositionParts) (plies looked : List Ply) (live : LiveParts) (here : RepetitionKey) : Type 0 where
+pub record IsHeld (start : PositionParts) (plies looked : List PlyParts) (live : LiveParts) (here : RepetitionKey) : Type 0 where
   pub line : IsLine start (plies ++ looked) live here
   pub few : length plies ≤ most_plies
   pub ahead : length looked ≤ 16

@@ -16,7 +16,7 @@ use Rattle.chess_types.specs.board.Repetition.{same_rights, same_target, countin
 use Rattle.chess_types.specs.steps.KeptSets.{Gathers, is_straight, holds_diagonal}
 use Rattle.chess_draws.specs.declared.men.MenSets.{MenSets}
 use Rattle.chess_draws.specs.declared.repetition_key.RepetitionKey.{RepetitionKey}
-use Rattle.chess_draws.specs.declared.ply.Ply.{Ply}
+use Rattle.chess_draws.specs.steps.KeptPlies.{PlyParts}
 
 -- a rook, a queen or a king stands there
 abbrev pub holds_straight_or_king : Option Man → Bool
@@ -50,5 +50,5 @@ same_men m n =
     && same_each m.short n.short
 
 -- the castling rights are those before a ply, and so is the target that counts (9.2.3)
-unfoldable pub same_moves : RepetitionKey → Ply → Bool
+unfoldable pub same_moves : RepetitionKey → PlyParts → Bool
 same_moves s ply = same_rights s.rights ply.past.rights && same_target s.target ply.target

@@ -1,7 +1,7 @@
 -- The first item within a line, known by its first byte.
---   IsWithin     some bytes within a line begin with that one, and so many come after it
+--   IsWithin     some bytes within a line begin with that one, and `left` come after it
 --   IsFollowed   some bytes within a line begin with that item, and these come after it
---   IsFirst      so it is, and so many come after it
+--   IsFirst      so it is, and `left` bytes come after it
 use Rattle.std.specs.Prelude.{◌≡◌, ◌<◌, ℕ, List, ◌∷◌, length, Some}
 use Rattle.chess_items.specs.Items.{Item}
 use Rattle.chess_items.specs.steps.ItemAt.{item_at}

@@ -69,7 +69,7 @@ mark_at [] = None
 mark_at (b ∷ []) = None
 mark_at (b ∷ c ∷ bytes) = if b == 187 then (if c == 191 then Some (Mark, bytes) else None) else None
 
--- what begins with another byte than those of words, white space, ! and ?
+-- what begins with another byte than those of words, whitespace, ! and ?
 unfoldable pub sign_at : Bool → ℕ → List ℕ → Found
 sign_at start b bytes =
     if b == byte "%" then hidden_at start bytes

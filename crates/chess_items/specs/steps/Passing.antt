@@ -35,7 +35,7 @@ module _ {X T : Type 0} (comes : X → List ℕ → X → Type 0) (at_hand : X �
     pub skipped : SkippedWhite comes at_hand all sound reads stopped.place mid new
     pub other : at_hand new ≢ []
 
-  -- a run of items ended, and white space alone was not taken for a game
+  -- a run of items ended, and whitespace alone was not taken for a game
   pub record Passed (limit : ℕ) (old new : X) (t u : T) (stopped : Stopped) : Type 0 where
     pub mid : X
     pub ran : Ran comes at_hand all sound reads takes limit old mid t u (Ok stopped)

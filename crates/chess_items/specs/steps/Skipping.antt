@@ -1,4 +1,4 @@
--- White space, marks and hidden lines that are read on without being kept.
+-- Whitespace, marks and hidden lines that are read on without being kept.
 --   TakesWhite    what becomes of an item: it is white and is used, or it is left
 --   BeginsHidden  whether bytes begin as a hidden line does
 --   Hides         reads, until a hidden line has ended

@@ -5,7 +5,7 @@
 --   Brackets    the taker took the bracket of a tag
 --   Offered     what becomes of an item that is offered
 --   Settles     what is used after an offer
---   Asked       no read was made, or the last was made before all had come, where at most so many bytes had, which did not decide the item after those taken
+--   Asked       no read was made, or the last was made before all had come, where at most `limit` bytes had, which did not decide the item after those taken
 --               so far
 --   Steps       one item is taken, or none
 --   Ran         items are taken, and why no more are
@@ -30,7 +30,7 @@ use Rattle.chess_items.specs.declared.taking.Step.{Step}
 use Rattle.chess_items.specs.declared.taking.Step.TheVariants as step
 use Rattle.chess_items.specs.declared.taking.Stopped.{Stopped}
 
--- a step of the taker: the item, how many bytes stand before it, and the answer
+-- a step of the taker: the item, how many bytes come before it, and the answer
 abbrev pub TakesOne : Type 0 → Type 1
 TakesOne T = T → ℕ → Item → Result Taken PgnFault → T → Type 0
 
@@ -48,7 +48,7 @@ abbrev pub behind : Place → List (ℕ × Item) → Place
 behind place [] = place
 behind place (x ∷ items) = behind (place_after place x.1) items
 
--- each item is white space, a mark or a hidden line
+-- each item is whitespace, a mark or a hidden line
 abbrev pub all_white : List (ℕ × Item) → Bool
 all_white items = list_all (λ (x : ℕ × Item). is_white x.1) items
 
@@ -56,7 +56,7 @@ all_white items = list_all (λ (x : ℕ × Item). is_white x.1) items
 abbrev pub Brackets : {T : Type 0} → TakesOne T → ℕ → T → T → Type 0
 Brackets takes at t u = takes t at TagOpen (Ok GoesOn) u ⊎ takes t at TagOpen (Ok Ends) u
 
--- an item at a place, of so many bytes, was offered, which may be at most `most`
+-- an item at a place, of `used` bytes, was offered, which may be at most `most`
 abbrev pub Offered : {T : Type 0} → TakesOne T → ℕ → ℕ → Place → Item → ℕ → T → T → Step → Type 0
 Offered takes at most place item used t u (step.On next len white) = takes t at item (Ok GoesOn) u × (used ≤ most) × (len ≡ used) × (next ≡ place_after place item) × (white ≡ is_white item)
 Offered takes at most place item used t u (step.Full next len white) = takes t at item (Ok Ends) u × (used ≤ most) × (len ≡ used) × (next ≡ place_after place item) × (white ≡ is_white item)
@@ -68,7 +68,7 @@ Offered takes at most place item used t u (step.Stops stop.End) = ⊥
 Offered takes at most place item used t u (step.Stops stop.NoItem) = ⊥
 
 module _ {X : Type 0} (comes : X → List ℕ → X → Type 0) (at_hand : X → List ℕ) (all sound : X → Type 0) (reads : X → ℕ) where
-  -- so many bytes are left, or nothing is used
+  -- `left` bytes are left, or nothing is used
   abbrev pub Settles : ℕ → Step → X → X → Type 0
   Settles left (step.On next used white) old new = Keeps comes at_hand all sound reads left old new
   Settles left (step.Full next used white) old new = Keeps comes at_hand all sound reads left old new

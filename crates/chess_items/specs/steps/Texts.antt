@@ -4,7 +4,7 @@
 --   LastCame    bytes came, the last of them by one read
 --   LastWhere   no read was made, or the last was made where this holds of the bytes before it
 --   LastSince   the same, and the last was made before all had come
---   Needs       no read was made, or the last was made where at most so many bytes were at hand, which did not decide the item
+--   Needs       no read was made, or the last was made where at most `most` bytes were at hand, which did not decide the item
 --   MadeReady   bytes came until the first item is decided or all have come
 --   Keeps       the first bytes are used
 --   Refills     all bytes at hand are used, and more come by one read
@@ -14,7 +14,7 @@
 --   RanShort    bytes came, each read needed, and then there was no memory
 --   Broke       bytes came, and then a read broke off; those before it don't decide the item that they begin with
 --   BreaksAt    either
---   Oversized   no item within so many bytes, and that there is none isn't decided by one byte more
+--   Oversized   no item within `most` bytes, and that there is none isn't decided by one byte more
 use Rattle.std.specs.Prelude.{◌≡◌, ℕ, ◌+◌, ◌*◌, ◌≤◌, ◌<◌, ◌⊎◌, Bool, true, false, List, [], ◌++◌, length, take, MatchOption, Result, Ok, Err}
 use Rattle.byte_streams.specs.Calls.{Calls, joined}
 use Rattle.chess_items.specs.steps.Deciding.{Decides}

@@ -9,7 +9,7 @@ use Rattle.chess_items.specs.declared.cut.Comment.{Comment}
 use Rattle.chess_items.specs.declared.cut.Comment.TheVariants.{Braces, Line}
 use Rattle.chess_items.specs.declared.place.Place.{Place}
 
--- of the bytes of which so many are used, and before which so many came
+-- of the bytes of which `used` are used, and before which `dropped` came
 pub record IsSearched (p : ℕ → Bool) (to dropped used : ℕ) (bytes : List ℕ) : Type 0 where
   pub passes : list_all p (take (to - (dropped + used)) (drop used bytes)) ≡ true
   pub within : to ≤ dropped + length bytes

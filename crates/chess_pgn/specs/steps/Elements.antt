@@ -8,7 +8,7 @@ use Rattle.chess_tree.specs.Forest.{Forest, below_at, count}
 use Rattle.chess_pgn.specs.Grammar.{Element, Number, Annotation, Remark, Open, Close, Text, comments_joined, move_in, ◌>>=◌}
 use Rattle.chess_pgn.specs.steps.Hanging.{hang, leaf, nag, say}
 
--- where its last move stands, the positions before and after it, and its comments, which it doesn't have yet
+-- where its last move is, the positions before and after it, and its comments, which it doesn't have yet
 pub record Frame : Type 0 where
   pub up : List ℕ
   pub place : ℕ

@@ -11,7 +11,7 @@
 --              within an item, before which a game may begin
 --   IsFault    a read broke off, or there was no memory, or no game is there
 --   TakesGame  what becomes of a text of which one game is taken
---   is_flood, halt_at  whether white space alone came before what reaches past the limit; where not, how far the items of a game were used
+--   is_flood, halt_at  whether whitespace alone came before what reaches past the limit; where not, how far the items of a game were used
 --   HaltsAt    how far the items of a game that can't be read were used
 use Rattle.std.specs.Prelude.{◌≡◌, ◌≢◌, ◌⊎◌, ◌≤◌, ℕ, Bool, true, false, List, [], ◌++◌, length, Option, Some, None, Result, Ok, Err, ⊤}
 use Rattle.byte_streams.specs.Calls.{Calls, joined}
@@ -99,7 +99,7 @@ module _ {X : Type 0} (comes : X → List ℕ → X → Type 0) (at_hand : X →
   TakesGame breaks old new (Ok found) = FoundGame comes at_hand all reads_left old new found
   TakesGame breaks old new (Err fault) = IsFault breaks old new fault
 
--- white space alone came before what reaches past the limit
+-- whitespace alone came before what reaches past the limit
 abbrev pub is_flood : Stop → Bool → Bool
 is_flood stop.TooLarge white = white
 is_flood _ white = false

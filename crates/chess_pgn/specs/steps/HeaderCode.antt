@@ -89,7 +89,7 @@ step_in Value h item = value_step h item
 step_in Closing h item = closing_step h item
 step_in Nothing h item = outside_step h item
 
--- whether white space may come next, outside of tags apart
+-- whether whitespace may come next, outside of tags apart
 abbrev pub is_spaced : Part → Bool
 is_spaced Value = false
 is_spaced Nothing = false
@@ -118,7 +118,7 @@ Heads item old new =
     (read : List (List ℕ × List ℕ)) → Finds read old.found.tags
     → (all : List (List ℕ × List ℕ)) × (step (heading read old) item ≡ Some (heading all new)) × Finds all new.found.tags
 
--- these items are all that it has taken, and what stands between tags
+-- these items are all that it has taken, and what comes between tags
 abbrev pub HasTaken : {A : Type 0} → List Item → Header A → Type 0
 HasTaken taken header =
     (read : List (List ℕ × List ℕ)) × Finds read header.found.tags × ((is : List Item) → heads_on (fresh []) (taken ++ is) ≡ heads_on (heading read header) is)
@@ -147,7 +147,7 @@ abbrev pub ends_fen : Part → Item → List ℕ → List (List ℕ × List ℕ)
 ends_fen Closing items.TagClose name kept = is_first_fen name kept
 ends_fen _ _ name kept = false
 
--- where that tag's bracket stands, after an item
+-- where that tag's bracket is, after an item
 abbrev pub fen_place : {A : Type 0} → Header A → Item → ℕ
 fen_place old item = if ends_fen old.part item old.name.items old.found.tags then old.at else old.fen_at
 
@@ -158,7 +158,7 @@ abbrev pub start_read : ℕ → Result PositionParts FenFault → Result (Option
 start_read at (Ok p) = Ok (Some p)
 start_read at (Err fault) = Err (record { place = at; kind = Fen })
 
--- where the bracket of the FEN's tag stands there
+-- where the bracket of the FEN's tag is at `at`
 abbrev pub start_told : ℕ → Option (List ℕ) → Result (Option PositionParts) PgnFault
 start_told at None = Ok None
 start_told at (Some fen) = start_read at (fen_reading fen)

@@ -5,7 +5,7 @@ use Rattle.byte_streams.specs.Words.{words_from}
 use Rattle.chess_pgn.specs.Layout.{lay, line_width}
 
 -- After `before`, and an empty line, the text so far is laid in lines, but for a word that has begun, after a space: that line
--- has `column` bytes before the space, which stands at `space`.
+-- has `column` bytes before the space, which is at `space`.
 pub record Lays (before laid : List ℕ) (space column : ℕ) (text : List ℕ) : Type 0 where
   pub done : List ℕ
   pub begun : List ℕ

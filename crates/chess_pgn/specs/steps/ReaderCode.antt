@@ -79,7 +79,7 @@ ending_item None = items.TagOpen
 
 -- ---- before the movetext
 
--- it is a part of a tag, or stands between tags
+-- it is a part of a tag, or comes between tags
 abbrev pub TakesPart : {A : Type 0} → Item → Header A → Header A → Type 0
 TakesPart item old new = HeadsOn item old new ⊎ ((may_part_tags item ≡ true) × (is_begun old.part ≡ false) × (new ≡ old))
 
@@ -106,7 +106,7 @@ pub record BeginsMoves {A : Type 0} (old new : Reader A) : Type 0 where
 abbrev pub NoStart : {A : Type 0} → Header A → Type 0
 NoStart header = (read : List (List ℕ × List ℕ)) → Finds read header.found.tags → start_in read ≡ None
 
--- no tag goes on with the item, or it stands in tags alone and none has begun
+-- no tag goes on with the item, or it comes in tags alone and none has begun
 abbrev pub Strays : {A : Type 0} → Item → PgnFault → Header A → Type 0
 Strays item fault header = ((is_begun header.part ≡ true) × RefusesTag item header fault) ⊎ ((is_begun header.part ≡ false) × (is_tagged item ≡ true))
 

@@ -25,7 +25,7 @@ abbrev pub returning : {A : Type 0} → List (Task A) → List Todo
 returning [] = []
 returning (t ∷ ts) = tasks.Back ∷ todos (t ∷ ts)
 
--- Some of the tasks' text is written, the others write the rest, and at least so much less is to be done.
+-- Some of the tasks' text is written, the others write the rest, and at least `least` less is to be done.
 pub record Writes {A : Type 0} (least : ℕ) (old new : Lines A) (line line' : Line) (ts ts' : List Todo) : Type 0 where
   pub more : List ℕ
   pub adds : Adds old new more

@@ -117,7 +117,7 @@ impl<'a, A: Allocator> Header<'a, A> {
         self.found.add(name, value)
     }
 
-    // Whether an item is white space between the tag's parts.
+    // Whether an item is whitespace between the tag's parts.
     fn passes(&self, token: Token<'_>) -> bool
         ensures { result ≡ (is_spaced self.now.part && is_tag_gap (item_of token.entry)) }
     {

@@ -325,7 +325,7 @@ impl<'a, A: Allocator> Late<'a, A> {
         Ok(())
     }
 
-    /// Steps back until the cursor is at most so many plies deep.
+    /// Steps back until the cursor is at most `depth` plies deep.
     pub fn back_to(&mut self, depth: u32)
         ensures { self.new ≡ at_path (take depth self.old.path) self.old }
     {

@@ -48,7 +48,7 @@ pub struct Moves<'a, A: Allocator> {
     from: usize,
 }
 
-// A comment after a semicolon, which might stand between braces.
+// A comment after a semicolon, as it is written between braces.
 fn push_line<'a, A: Allocator>(text: &mut Vec<u8, &'a A>, line: &[u8]) -> Result<(), AllocError>
     ensures { OnOk result (text.new.items ≡ text.old.items ++ map without_brace line.now) }
 {

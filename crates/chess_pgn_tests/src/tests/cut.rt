@@ -23,7 +23,7 @@ fn fault(place: u64, kind: FaultKind) -> Begun {
     Err(PgnFault { place, kind })
 }
 
-/// What the game's first so many bytes begin with.
+/// What the game's first `count` bytes begin with.
 fn wanted(count: usize) -> Begun {
     match count {
         0 => Ok(None),
@@ -39,7 +39,7 @@ fn wanted(count: usize) -> Begun {
     }
 }
 
-/// The game's first so many bytes.
+/// The game's first `count` bytes.
 fn start_of_game(rt: &impl Abort, count: usize) -> &'static [u8] {
     GAME.get(..count).expect(rt, "so many bytes")
 }
@@ -52,7 +52,7 @@ fn each_prefix_of_a_game(rt: HostRuntime) {
     }
 }
 
-/// A comment of so many letters, and the end of the game.
+/// A comment of `letters` letters, and the end of the game.
 fn comment<'a, A: Allocator>(alloc: &'a A, letters: usize) -> Result<Vec<u8, &'a A>, AllocError> {
     let mut text = Vec::from_slice(alloc, b"{")?;
     for _ in 0..letters {
@@ -62,7 +62,7 @@ fn comment<'a, A: Allocator>(alloc: &'a A, letters: usize) -> Result<Vec<u8, &'a
     Ok(text)
 }
 
-/// What a comment of so many letters begins with.
+/// What a comment of `letters` letters begins with.
 fn start_of_comment<A: Allocator>(alloc: &A, letters: usize) -> Result<Begun, AllocError> {
     let text = comment(alloc, letters)?;
     Ok(read_start(alloc, text.as_slice()))
@@ -77,7 +77,7 @@ fn the_longest_game(rt: HostRuntime) -> Result<(), Fail> {
     Ok(())
 }
 
-/// A game with so many variations of its first move.
+/// A game with `variations` variations of its first move.
 fn varied<'a, A: Allocator>(alloc: &'a A, variations: u32) -> Result<Vec<u8, &'a A>, AllocError> {
     let mut text = Vec::from_slice(alloc, b"e4")?;
     for _ in 0..variations {
@@ -86,7 +86,7 @@ fn varied<'a, A: Allocator>(alloc: &'a A, variations: u32) -> Result<Vec<u8, &'a
     Ok(text)
 }
 
-/// The text of the game at the start of a text that uses so many bytes and has so many moves at its beginning.
+/// The text of the game at the start of a text; the bytes that it uses and the moves at its beginning are as many as wanted.
 fn written<'a, A: Allocator>(
     rt: &impl Abort,
     alloc: &'a A,

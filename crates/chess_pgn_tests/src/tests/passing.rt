@@ -14,7 +14,7 @@ use std::test::Fail;
 /// What a call returns.
 #[derive(Clone, Copy)]
 enum Step {
-    /// `next`: a game, after which so many bytes were used.
+    /// `next`: a game, with how many bytes were used after it.
     Game(u64),
     /// `next`: a fault, its place and its number.
     Fault(u64, u8),
@@ -246,7 +246,7 @@ fn goes_on_after_a_bad_game(rt: HostRuntime) -> Result<(), Fail> {
     Ok(())
 }
 
-/// White space that goes past the limit is a bad game of its own: `next` uses all of it, and then so many bytes are passed over.
+/// Whitespace that goes past the limit is a bad game of its own: `next` uses all of it, and then those of `bad` are passed over.
 fn assert_after_white<A: Allocator>(
     rt: &impl Abort,
     alloc: &A,
@@ -272,7 +272,7 @@ fn after_white_space_past_the_limit(rt: HostRuntime) -> Result<(), Fail> {
     Ok(())
 }
 
-/// A collection in reads of four bytes, of which the one after so many fails.
+/// A collection in reads of four bytes, of which the one after `good_reads` fails.
 fn assert_failing<A: Allocator>(rt: &impl Abort, alloc: &A, good_reads: u64, steps: &[Step]) {
     let text = b"* ~~~~~~\n\n[A \"3\"] *";
     let source = FromBytes::failing_after(text, 4, good_reads);

@@ -86,7 +86,7 @@ const LONG: &[(&[u8], u8, &[u8], Found)] = &[
     ),
 ];
 
-/// A text, a byte so many times, and what is after them.
+/// A text, a byte `count` times, and what is after them.
 pub fn long_text<'a, A: Allocator>(
     alloc: &'a A,
     first: &[u8],
@@ -100,7 +100,7 @@ pub fn long_text<'a, A: Allocator>(
     Ok(text)
 }
 
-/// The item of so many bytes begins so.
+/// A text with 200,000 bytes of `filler` in it begins so.
 fn assert_long<A: Allocator>(
     rt: &impl Abort,
     alloc: &A,
@@ -223,7 +223,7 @@ fn whitespace_after_the_limit(rt: HostRuntime) -> Result<(), Fail> {
     assert_each_after(&rt, &alloc, &mut text, AFTER_SPACES)
 }
 
-/// Whether there is a game in a source of which so many calls go well.
+/// Whether there is a game in a source of which `calls` calls go well.
 fn first_until<A: Allocator>(alloc: &A, calls: u64) -> Result<bool, GamesFault> {
     let source = FromBytes::failing_after(b"1. e4 e5 *", 2, calls);
     match Games::new(alloc, source).next() {

@@ -1,4 +1,4 @@
-//! Random games, with what may stand between their tokens and with faults, in one piece and in random ones.
+//! Random games, with what may come between their tokens and with faults, in one piece and in random ones.
 ghost use Rattle.std.specs.Prelude.{◌<◌};
 
 use super::common::{a_table, read_all};
@@ -15,7 +15,7 @@ use std::test::Fail;
 /// How many texts are read, each of one to three games.
 const TEXTS: u32 = 500;
 
-/// What may stand between two tokens of the movetext.
+/// What may come between two tokens of the movetext.
 const BETWEEN: [&[u8]; 12] = [
     b" ",
     b"\n",
@@ -55,7 +55,7 @@ fn pick<'t>(random: &mut Pcg64, texts: &[&'t [u8]]) -> &'t [u8] {
     texts.get(index).copied().unwrap_or(b" ")
 }
 
-/// Adds so many random moves, with a note at some of them.
+/// Adds `plies` random moves, with a note at some of them.
 fn wander<A: Allocator>(analysis: &mut Analysis<'_, '_, A>, random: &mut Pcg64, plies: u64) {
     for _ in 0..plies {
         let moves = analysis.moves();
@@ -124,7 +124,7 @@ fn game<'a, A: Allocator>(
     Some(Game { tags, result, tree })
 }
 
-/// Copies a game's text: in the movetext, at one space in eight, something else may stand between the tokens.
+/// Copies a game's text: in the movetext, at one space in eight, something else may come between the tokens.
 fn strew<A: Allocator>(
     text: &mut Vec<u8, A>,
     written: &[u8],

@@ -10,7 +10,7 @@ use std::alloc::Allocator;
 use std::process::Abort;
 use std::test::Fail;
 
-/// The text begins with a game whose movetext that is, and uses so many bytes.
+/// The text begins with a game whose movetext that is, and uses `used` bytes.
 fn assert_reads<A: Allocator>(rt: &impl Abort, alloc: &A, text: &str, movetext: &str, used: usize) {
     let (game, count) = first_game(rt, alloc, text.as_bytes());
     assert!(rt; count == used, "{text}");
@@ -122,7 +122,7 @@ fn ends_with<'a, A: Allocator>(alloc: &'a A, game: &Game<'a, A>, end: &str) -> b
     }
 }
 
-/// The text begins with a game that uses so many bytes, and whose own text ends so.
+/// The text begins with a game that uses `used` bytes, and whose own text ends so.
 fn assert_end<A: Allocator>(rt: &impl Abort, alloc: &A, text: &str, used: usize, end: &str) {
     let (game, count) = first_game(rt, alloc, text.as_bytes());
     assert!(rt; count == used, "{text}");
@@ -224,7 +224,7 @@ const fn refused(place: u64, kind: FaultKind) -> Option<GamesFault> {
     Some(GamesFault::Pgn(PgnFault { place, kind }))
 }
 
-/// In pieces of that size so many games come, and then the fault.
+/// In pieces of that size `count` games come, and then the fault.
 fn assert_games<A: Allocator>(
     rt: &impl Abort,
     alloc: &A,
@@ -313,7 +313,7 @@ fn games_in_any_pieces(rt: HostRuntime) {
     }
 }
 
-/// A game of so many variations of its first move, each in the one before.
+/// A game of `many` variations of its first move, each in the one before.
 fn nested<'a, A: Allocator>(alloc: &'a A, many: u32) -> Result<Vec<u8, &'a A>, PgnFault> {
     let mut text = Vec::from_slice(alloc, b"1. e4")?;
     for _ in 0..many {
@@ -335,7 +335,7 @@ fn begun<A: Allocator>(alloc: &A, text: &[u8]) -> Result<Option<u32>, PgnFault> 
     }
 }
 
-/// What a game of so many variations, each in the one before, begins with.
+/// What a game of `many` variations, each in the one before, begins with.
 fn read_nested<A: Allocator>(
     alloc: &A,
     many: u32,

@@ -73,7 +73,7 @@ axb1=R+) *",
             (UNKNOWN, "0-1", "", "1. f3 e5 2. g4 Qh4# 0-1"),
         ],
     ),
-    // En passant from a target that a FEN tells.
+    // En passant from a target that a FEN names.
     (
         "[SetUp \"1\"]\n\
 [FEN \"4k3/8/8/2pP4/8/8/8/4K3 w - c6 0 2\"]\n\
@@ -265,7 +265,7 @@ fn push_game<A: Allocator>(out: &mut Vec<u8, A>, game: Written) -> Result<(), Al
     Ok(())
 }
 
-/// Each collection of the table, and all of them in one, with white space between that is longer than a read.
+/// Each collection of the table, and all of them in one, with whitespace between that is longer than a read.
 fn assert_rows<A: Allocator>(rt: &impl Abort, alloc: &A) -> Result<(), AllocError> {
     assert_row(rt, alloc, STANDARD.as_bytes(), STANDARD.as_bytes())?;
     let mut all = Vec::new(alloc);

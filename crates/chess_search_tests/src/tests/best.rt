@@ -99,7 +99,7 @@ fn asks_for_few_positions(rt: HostRuntime) {
     assert!(rt; asked > 20 && asked < 9_323);
 }
 
-/// The first legal move as a search by slices tells it after one slice, and the positions that were asked for.
+/// The first legal move as a search by slices gives it after one slice, and the positions that were asked for.
 #[tactic(auto, using(chess_search::proofs::RootLemmas::roots_legal))]
 fn one_slice<A: Allocator>(line: &mut Line<'_, A>) -> (Option<(Move, i32)>, u64)
     requires none { line.old.looked ≡ 0 }

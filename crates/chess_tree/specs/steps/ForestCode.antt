@@ -1,4 +1,4 @@
--- A forest as a list, by which a proof tells forests apart: each node's parts, then the nodes below it, then those after it.
+-- A forest as a list, by which a proof distinguishes forests: each node's parts, then the nodes below it, then those after it.
 use Rattle.std.specs.Prelude.{◌≡◌, ℕ, List, [], ◌∷◌, ◌++◌, Option, Some, None, refl}
 use Rattle.std.specs.Coded.{Coded, code_by, coded×, coded_ℕ, coded_list, coded_option}
 use Rattle.std.proofs.Common.{append_assoc, sym, ap, ◌∙◌}

@@ -1,40 +1,13 @@
 -- A slot in the bytes that are kept of it.
---   kind_promoted, promotion_of    what a pawn becomes, and its byte; kind_byte, that of a kind
 --   below_of                       where the children are, by a byte and a number
 --   children_kind, number_below    the byte and the number of where the children are
 --   IsNumbered                     the number is 0 where there is no child
-use Rattle.std.specs.Prelude.{◌≡◌, ℕ, Option, Some, None, refl, ⊤}
+use Rattle.std.specs.Prelude.{◌≡◌, ℕ, refl, ⊤}
 use Rattle.std.proofs.Common.{sym}
-use Rattle.chess_types.specs.declared.board.man.Kind.{Kind}
-use Rattle.chess_types.specs.declared.board.man.Kind.TheVariants as kinds
-use Rattle.chess_tree.specs.declared.arena.kept_slot.Promotion.{Promotion}
-use Rattle.chess_tree.specs.declared.arena.kept_slot.Promotion.TheVariants as become
 use Rattle.chess_tree.specs.declared.arena.kept_slot.Children.{Children}
 use Rattle.chess_tree.specs.declared.arena.kept_slot.Children.TheVariants as are
 use Rattle.chess_tree.specs.declared.arena.slot.Below.{Below}
 use Rattle.chess_tree.specs.declared.arena.slot.Below.TheVariants.{Nothing, One, Listed}
-
-abbrev pub kind_promoted : Promotion → Option Kind
-kind_promoted become.Nothing = None
-kind_promoted become.Pawn = Some kinds.Pawn
-kind_promoted become.Knight = Some kinds.Knight
-kind_promoted become.Bishop = Some kinds.Bishop
-kind_promoted become.Rook = Some kinds.Rook
-kind_promoted become.Queen = Some kinds.Queen
-kind_promoted become.King = Some kinds.King
-
--- the byte of a kind
-abbrev pub kind_byte : Kind → Promotion
-kind_byte kinds.Pawn = become.Pawn
-kind_byte kinds.Knight = become.Knight
-kind_byte kinds.Bishop = become.Bishop
-kind_byte kinds.Rook = become.Rook
-kind_byte kinds.Queen = become.Queen
-kind_byte kinds.King = become.King
-
-abbrev pub promotion_of : Option Kind → Promotion
-promotion_of None = become.Nothing
-promotion_of (Some kind) = kind_byte kind
 
 abbrev pub below_of : Children → ℕ → Below
 below_of are.Nothing number = Nothing
@@ -55,16 +28,6 @@ abbrev pub IsNumbered : Children → ℕ → Type 0
 IsNumbered are.Nothing number = number ≡ 0
 IsNumbered are.One number = ⊤
 IsNumbered are.Listed number = ⊤
-
--- a byte is that of what it stands for
-abbrev pub promotion_of-kind : (p : Promotion) → promotion_of (kind_promoted p) ≡ p
-promotion_of-kind become.Nothing = refl
-promotion_of-kind become.Pawn = refl
-promotion_of-kind become.Knight = refl
-promotion_of-kind become.Bishop = refl
-promotion_of-kind become.Rook = refl
-promotion_of-kind become.Queen = refl
-promotion_of-kind become.King = refl
 
 -- a byte is that of where the children are by it
 abbrev pub children_kind-below : (c : Children) (number : ℕ) → children_kind (below_of c number) ≡ c

@@ -24,7 +24,7 @@ pub record Noted : Type 0 where
   pub nags : List ℕ
   pub comment : List ℕ
 
--- as a tuple, by which a proof tells them apart
+-- as a tuple, by which a proof distinguishes them
 abbrev pub coded_noted : Coded Noted
 coded_noted = code_by (List ℕ × List ℕ) (coded× (coded_list coded_ℕ) (coded_list coded_ℕ)) (λ n. (n.nags, n.comment)) (λ p. record { nags = p.0; comment = p.1 }) (λ _. refl)
 

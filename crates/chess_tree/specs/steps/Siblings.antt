@@ -1,4 +1,4 @@
--- What a look at the children of a node stands on.
+-- What a look at the children of a node relies on.
 --   Owner       the nodes below that one
 --   IsOwner     there are such nodes
 --   AreThere    the numbers of its children are those of nodes

@@ -1,4 +1,4 @@
--- A tree with its cursor as a tuple, by which a proof tells them apart.
+-- A tree with its cursor as a tuple, by which a proof distinguishes them.
 use Rattle.std.specs.Prelude.{ℕ, List, refl}
 use Rattle.std.specs.Coded.{Coded, code_by, coded×, coded_ℕ, coded_list}
 use Rattle.chess_types.specs.board.Position.{PositionParts}

@@ -68,7 +68,7 @@ impl<'a, F: Follower, A: Allocator> AnalysisWith<'a, F, A> {
         self.line.in_check()
     }
 
-    /// The move that was made after so many plies from the root on the way to the cursor, from 0; `None` at the cursor and beyond.
+    /// The move that was made after `ply` plies from the root on the way to the cursor, from 0; `None` at the cursor and beyond.
     pub fn played(&self, ply: u32) -> Option<Move>
         ensures value { result ≡ slice_get (line_to self.now).moves ply }
     {
@@ -92,7 +92,7 @@ impl<'a, F: Follower, A: Allocator> AnalysisWith<'a, F, A> {
         self.line.count()
     }
 
-    /// How the game stands at the cursor (FIDE Laws 5.1.1, 5.2.1, 5.2.2, 9.6).
+    /// The game's status at the cursor (FIDE Laws 5.1.1, 5.2.1, 5.2.2, 9.6).
     pub fn status(&mut self) -> Status
         ensures value { result ≡ status (line_to self.old) }
         ensures as_before { self.new ≡ self.old }
@@ -119,7 +119,7 @@ impl<'a, F: Follower, A: Allocator> AnalysisWith<'a, F, A> {
 }
 
 impl<'a, 'k, A: Allocator> AnalysisWith<'a, Followers<'k>, A> {
-    /// The first legal move at the cursor of greatest plain minimax value so many plies deep, 1 to 16, with its value for the side to
+    /// The first legal move at the cursor of greatest plain minimax value `depth` plies deep, 1 to 16, with its value for the side to
     /// move: centipawns, or 30,000 less the plies to a mate. `None` where there is no legal move. Takes no memory.
     #[tactic(auto, using(chess_search::proofs::RootLemmas::roots_legal))]
     pub fn best(&mut self, depth: u8) -> Option<(Move, i32)>

@@ -41,7 +41,7 @@ impl<'a, F: Follower, A: Allocator> AnalysisWith<'a, F, A> {
     }
 
     /// Sets the comment at the cursor (PGN 5): the words of the text with one space between two; an empty one removes it.
-    /// `BadComment` where a right brace stands in it, else `Memory` where there is none; a text without words takes none.
+    /// `BadComment` where a right brace is in it, else `Memory` where there is none; a text without words takes none.
     pub fn set_comment(&mut self, text: &[u8]) -> Result<(), TreeFault>
         ensures { Comments text.now self.old result self.new }
     {

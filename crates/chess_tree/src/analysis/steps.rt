@@ -32,7 +32,7 @@ impl<'a, F: Follower, A: Allocator> AnalysisWith<'a, F, A> {
         Ok(())
     }
 
-    /// Steps back until the cursor is at most so many plies deep.
+    /// Steps back until the cursor is at most `depth` plies deep.
     pub fn back_to(&mut self, depth: u32)
         ensures path { self.new ≡ at_path (take depth self.old.path) self.old }
     {

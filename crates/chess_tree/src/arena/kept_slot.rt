@@ -1,54 +1,12 @@
 //! A node in 16 bytes.
 
 ghost use Rattle.std.specs.Prelude.{◌≡◌};
-ghost use Rattle.chess_tree.specs.steps.KeptSlots.{children_kind, kind_promoted, number_below, promotion_of};
+ghost use Rattle.chess_tree.specs.steps.KeptSlots.{children_kind, number_below};
 
 use super::node_id::NodeId;
 use super::slot::{Below, Slot};
-use chess_types::{Kind, Move, Square};
+use chess_types::{KeptMove, Move};
 use std::marker::Model;
-
-// What a pawn becomes, in one byte.
-#[derive(Clone, Copy)]
-enum Promotion {
-    Nothing,
-    Pawn,
-    Knight,
-    Bishop,
-    Rook,
-    Queen,
-    King,
-}
-
-impl Promotion {
-    fn of(promo: Option<Kind>) -> Promotion
-        ensures { result ≡ promotion_of promo }
-    {
-        match promo {
-            None => Promotion::Nothing,
-            Some(Kind::Pawn) => Promotion::Pawn,
-            Some(Kind::Knight) => Promotion::Knight,
-            Some(Kind::Bishop) => Promotion::Bishop,
-            Some(Kind::Rook) => Promotion::Rook,
-            Some(Kind::Queen) => Promotion::Queen,
-            Some(Kind::King) => Promotion::King,
-        }
-    }
-
-    fn kind(self) -> Option<Kind>
-        ensures { result ≡ kind_promoted self }
-    {
-        match self {
-            Promotion::Nothing => None,
-            Promotion::Pawn => Some(Kind::Pawn),
-            Promotion::Knight => Some(Kind::Knight),
-            Promotion::Bishop => Some(Kind::Bishop),
-            Promotion::Rook => Some(Kind::Rook),
-            Promotion::Queen => Some(Kind::Queen),
-            Promotion::King => Some(Kind::King),
-        }
-    }
-}
 
 // How many children a node has.
 #[derive(Clone, Copy)]
@@ -84,9 +42,7 @@ fn number_of(below: &Below) -> u32
 /// A slot as it is kept: what is in its move and in `Below` takes a byte each, so that it has 16. Contracts see the slot.
 #[derive(Clone, Copy)]
 pub(crate) struct KeptSlot {
-    from: Square,
-    to: Square,
-    promotion: Promotion,
+    played: KeptMove,
     children: Children,
     parent: NodeId,
     place: u32,
@@ -96,17 +52,17 @@ pub(crate) struct KeptSlot {
 
 impl Model for KeptSlot {
     ghost use Rattle.chess_tree.specs.declared.arena.slot.Slot.{Slot};
-    ghost use Rattle.chess_tree.specs.steps.KeptSlots.{IsNumbered, below_of, children_kind, children_kind-below, kind_promoted, number_below, number-below, promotion_of, promotion_of-kind};
+    ghost use Rattle.chess_tree.specs.steps.KeptSlots.{IsNumbered, below_of, children_kind, children_kind-below, number_below, number-below};
 
     ghost Value = { Slot };
 
-    ghost view = { λ k. record { played = record { from = k.from; to = k.to; promo = kind_promoted k.promotion }; parent = k.parent; place = k.place; below = below_of k.children k.number } };
+    ghost view = { λ k. record { played = k.played; parent = k.parent; place = k.place; below = below_of k.children k.number } };
 
     ghost invariant = { λ k. IsNumbered k.children k.number };
 
-    ghost inverse = { λ s. record { from = s.played.from; to = s.played.to; promotion = promotion_of s.played.promo; children = children_kind s.below; parent = s.parent; place = s.place; number = number_below s.below } };
+    ghost inverse = { λ s. record { played = s.played; children = children_kind s.below; parent = s.parent; place = s.place; number = number_below s.below } };
 
-    ghost inverse_ok = { λ k is i. record { from = k.from; to = k.to; promotion = promotion_of-kind k.promotion i; children = children_kind-below k.children k.number i; parent = k.parent; place = k.place; number = number-below k.children k.number is i } };
+    ghost inverse_ok = { λ k is i. record { played = k.played; children = children_kind-below k.children k.number i; parent = k.parent; place = k.place; number = number-below k.children k.number is i } };
 }
 
 impl KeptSlot {
@@ -122,11 +78,8 @@ impl KeptSlot {
             place,
             below,
         } = slot;
-        let Move { from, to, promo } = played;
         KeptSlot {
-            from,
-            to,
-            promotion: Promotion::of(promo),
+            played: KeptMove::of(played),
             children: Children::of(&below),
             parent,
             place,
@@ -139,11 +92,7 @@ impl KeptSlot {
     pub(crate) fn played(self) -> Move
         ensures { result ≡ self.played }
     {
-        Move {
-            from: self.from,
-            to: self.to,
-            promo: self.promotion.kind(),
-        }
+        self.played.get()
     }
 
     /// The node's parent.

@@ -9,6 +9,7 @@ ghost use Rattle.chess_tree.specs.Forest.{most_moves};
 use super::kept_slot::KeptSlot;
 use super::node_id::NodeId;
 use super::slot::{Below, Slot};
+use chess_draws::make_room;
 use chess_types::Move;
 use smallvec::SmallVec;
 use std::alloc::{AllocError, Allocator};
@@ -139,7 +140,7 @@ impl<'a, A: Allocator> Nodes<'a, A> {
         ensures ok { OnOk result (self.new ≡ self.old ++ leaf_entry played parent place ∷ []) }
         ensures err { OnErr result (self.new ≡ self.old) }
     {
-        make_room(&mut self.slots)?;
+        make_room(&mut self.slots, 2)?;
         self.slots
             .push(KeptSlot::of(Slot::leaf(played, parent, place)))?;
         Ok(())
@@ -191,7 +192,7 @@ impl<'a, A: Allocator> Nodes<'a, A> {
                 let mut children = SmallVec::new(self.alloc);
                 children.push(first)?;
                 children.push(child)?;
-                make_room(&mut self.lists)?;
+                make_room(&mut self.lists, 1)?;
                 self.lists.push(children)?;
                 self.slots[at.index()].set_below(Below::Listed(list));
             }
@@ -254,16 +255,6 @@ impl<'a, A: Allocator> Nodes<'a, A> {
 
 /// Room for so few children is kept in the list itself.
 const FEW: usize = 2;
-
-// Room for one more; where there is none, for a quarter of those that there are, so that little memory lies idle.
-fn make_room<T, A: Allocator>(items: &mut Vec<T, A>) -> Result<(), AllocError>
-    ensures items { items.new.items ≡ items.old.items }
-{
-    if items.len() == items.capacity() {
-        items.reserve_exact(items.len() / 4 + 1)?;
-    }
-    Ok(())
-}
 
 // The item at a place.
 fn at_place<A: Allocator>(children: &SmallVec<NodeId, 2, &A>, place: u32) -> Option<NodeId>

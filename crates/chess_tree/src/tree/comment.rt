@@ -9,7 +9,7 @@ use crate::fault::TreeFault;
 use byte_streams::split_word;
 use std::alloc::{AllocError, Allocator};
 
-/// The bytes of white space: from the horizontal tab to the carriage return, and the space.
+/// The bytes of whitespace: from the horizontal tab to the carriage return, and the space.
 const BLANKS: &[u8] = b"\t\n\x0b\x0c\r ";
 
 // Appends a word, after a space unless it is the first: with that comes room for the others.
@@ -44,7 +44,7 @@ fn normalised<'a, A: Allocator>(alloc: &'a A, text: &[u8]) -> Result<Vec<u8, &'a
 
 impl<'a, A: Allocator> Tree<'a, A> {
     /// Sets the comment at the cursor (PGN 5): the words of the text with one space between two; an empty one removes it.
-    /// `BadComment` where a right brace stands in it, else `Memory` where there is none; a text without words takes none.
+    /// `BadComment` where a right brace is in it, else `Memory` where there is none; a text without words takes none.
     pub fn set_comment(&mut self, text: &[u8]) -> Result<(), TreeFault>
         ensures { Comments text.now self.old result self.new }
     {

@@ -2,7 +2,7 @@
 
 ghost use Rattle.std.specs.Prelude.{◌≡◌};
 ghost use Rattle.chess_tree.specs.GameTree.{here, root_node};
-ghost use Rattle.chess_tree.specs.Undo.{is_bare};
+ghost use Rattle.chess_tree.specs.Undo.{is_bare_node};
 
 use super::Tree;
 use crate::node::{NodeRef, Notes};
@@ -34,7 +34,7 @@ impl<'a, A: Allocator> Tree<'a, A> {
 
     /// Whether nothing hangs on the node at the cursor: no child, no comment and no annotation number.
     pub fn is_bare(&self) -> bool
-        ensures { result ≡ is_bare (here self.now) }
+        ensures { result ≡ is_bare_node (here self.now) }
     {
         let node = self.nodes.node_here();
         let notes = node.notes();

@@ -20,7 +20,7 @@ fn lengthen<A: Allocator>(rt: &impl Abort, tree: &mut Tree<'_, A>) -> Result<(),
     Ok(())
 }
 
-/// A tree of so many lines of 20,000 plies, the cursor at the end of the last.
+/// A tree of `lines` lines of 20,000 plies, the cursor at the end of the last.
 fn long_lines<'a, A: Allocator>(
     rt: &impl Abort,
     alloc: &'a A,
@@ -33,7 +33,7 @@ fn long_lines<'a, A: Allocator>(
     Ok(tree)
 }
 
-/// Goes by a table at the end of so many lines.
+/// Goes by a table at the end of `lines` lines.
 fn play_long<A: Allocator>(rt: &impl Abort, alloc: &A, lines: u32, rows: &[Row]) {
     let mut tree = long_lines(rt, alloc, lines).expect(rt, "a tree");
     run(rt, &mut tree, rows);
@@ -91,7 +91,7 @@ fn a_full_tree(rt: HostRuntime) {
     play_long(&rt, &rt.alloc(), 50, FULL);
 }
 
-/// Adds so many moves below the cursor, side by side.
+/// Adds `moves` moves below the cursor, side by side.
 fn widen<A: Allocator>(
     rt: &impl Abort,
     tree: &mut Tree<'_, A>,
@@ -105,7 +105,7 @@ fn widen<A: Allocator>(
     Ok(())
 }
 
-/// Goes by a table at a root with so many children.
+/// Goes by a table at a root with `moves` children.
 fn play_wide<A: Allocator>(rt: &impl Abort, alloc: &A, moves: u32, rows: &[Row]) {
     let mut tree = begin(alloc).expect(rt, "a tree");
     widen(rt, &mut tree, moves).expect(rt, "a wide tree");

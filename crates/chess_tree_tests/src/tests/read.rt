@@ -212,7 +212,7 @@ fn step_or_add<A: Allocator>(
     Ok(())
 }
 
-/// Steps and adds until there are so many moves.
+/// Steps and adds until there are `MOVES` moves.
 fn grow<A: Allocator>(
     alloc: &A,
     analysis: &mut Analysis<'_, '_, A>,

@@ -129,12 +129,12 @@ fn first_refused<C: Called>(rt: &impl Abort, called: &mut C, from: u32) -> u32 {
     C::CALLS
 }
 
-/// Takes what a heap has left of so many bytes, until it is dropped.
+/// Takes what a heap has left of `bytes` bytes, until it is dropped.
 fn fill<'a>(rt: &impl Abort, heap: &'a LocalHeap, bytes: usize) -> Vec<u8, &'a LocalHeap> {
     Vec::with_capacity(heap, bytes.saturating_sub(heap.used())).expect(rt, "room")
 }
 
-/// The first call that is refused while so many bytes of the heap are taken.
+/// The first call that is refused while `bytes` bytes of the heap are taken.
 fn first_without<C: Called>(
     rt: &impl Abort,
     heap: &LocalHeap,
@@ -145,7 +145,7 @@ fn first_without<C: Called>(
     first_refused(rt, called, 0)
 }
 
-/// Calls while so many bytes of the heap are taken, until one is refused, and on from there once there is memory: whether one was.
+/// Calls while `bytes` bytes of the heap are taken, until one is refused, and on from there once there is memory: whether one was.
 fn call_all<C: Called>(rt: &impl Abort, heap: &LocalHeap, called: &mut C, bytes: usize) -> bool {
     let call = first_without(rt, heap, called, bytes);
     assert!(rt; first_refused(rt, called, call) == C::CALLS);
@@ -210,7 +210,7 @@ fn size_of(trial: Trial, number: usize) -> usize {
     }
 }
 
-/// So many bytes, but for room that grows with the number.
+/// `bytes` bytes, but for room that grows with the number.
 fn taken(bytes: usize, number: usize, step: usize) -> usize {
     bytes.saturating_sub(number.saturating_mul(step))
 }
@@ -238,7 +238,7 @@ fn is_refused(
     Ok(refused)
 }
 
-/// How often a growth is refused on so many heaps.
+/// How often a growth is refused on `heaps` heaps.
 fn count_refused(
     rt: &impl Abort,
     alloc: Global,

@@ -84,7 +84,7 @@ fn grow<A: Allocator>(
     tree.add(played)
 }
 
-/// Adds the move of that text, which is legal where the board stands, at the cursor.
+/// Adds the move of that text, which is legal in the board's position, at the cursor.
 pub(crate) fn add_on<A: Allocator>(
     rt: &impl Abort,
     tree: &mut Tree<'_, A>,

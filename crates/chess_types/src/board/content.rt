@@ -1,6 +1,7 @@
 //! What a square holds, in one byte.
 
-ghost use Rattle.std.specs.Prelude.{◌≡◌, None, is_none};
+ghost use Rattle.std.specs.Prelude.{◌≡◌, ◌<◌, IfSome, None, is_none, option_map};
+ghost use Rattle.chess_types.specs.board.Texts.{man_letter};
 ghost use Rattle.chess_types.specs.steps.Marks.{white_mark, black_mark};
 
 use super::man::{Colour, Kind, Man};
@@ -121,6 +122,30 @@ impl Content {
             Mark::BlackKing => (Colour::Black, Kind::King),
         };
         Some(Man { colour, kind })
+    }
+
+    /// The man's letter, in upper case for White and in lower case for Black (PGN 16.1.3.1); `None` where there is no man.
+    #[inline(always)]
+    pub fn letter(self) -> Option<char>
+        ensures value { result ≡ option_map man_letter self }
+        ensures ascii { IfSome result (λ letter. letter < 128) }
+    {
+        let letter = match self.mark {
+            Mark::Empty => return None,
+            Mark::WhitePawn => 'P',
+            Mark::WhiteKnight => 'N',
+            Mark::WhiteBishop => 'B',
+            Mark::WhiteRook => 'R',
+            Mark::WhiteQueen => 'Q',
+            Mark::WhiteKing => 'K',
+            Mark::BlackPawn => 'p',
+            Mark::BlackKnight => 'n',
+            Mark::BlackBishop => 'b',
+            Mark::BlackRook => 'r',
+            Mark::BlackQueen => 'q',
+            Mark::BlackKing => 'k',
+        };
+        Some(letter)
     }
 
     /// Whether there is no man.

@@ -1,6 +1,6 @@
 -- What the words after `position` lead to in the code.
 --   Places   the line is placed, or there is none; or there is no memory, where `grows` holds
---   Begins   the same of a line that is handed out, on which no move is looked at
+--   Begins   the same of a line that is returned, on which no move is looked at
 use Rattle.std.specs.Prelude.{◌≡◌, Option, Some, None, Result, Ok, Err}
 use Rattle.chess_types.specs.board.Lines.{Line}
 use Rattle.chess_draws.specs.LineParts.{LineParts}

@@ -1,4 +1,4 @@
--- A session's state as a tuple, by which a proof tells states apart.
+-- A session's state as a tuple, by which a proof distinguishes states.
 use Rattle.std.specs.Prelude.{ℕ, Bool, List, Option, ℤ, refl}
 use Rattle.std.specs.Coded.{Coded, code_by, coded×, coded_ℕ, coded_ℤ, coded_bool, coded_list, coded_option}
 use Rattle.chess_types.specs.board.MoveParts.{MoveParts}

@@ -47,7 +47,7 @@ fn is_replied<'a, A: Allocator>(
     session.event(event).as_slice() == wanted.as_slice()
 }
 
-/// Both search so many roots.
+/// Both search `number` roots.
 fn search<'a, A: Allocator>(
     rt: &impl Abort,
     session: &mut Session<'a, A>,

@@ -142,7 +142,7 @@ impl<'a, A: Allocator> Plain<'a, A> {
         (roots.len(), roots.as_slice().first().copied())
     }
 
-    /// The best of so many of the first roots of a `go` line.
+    /// The best of the first `number` roots of a `go` line.
     #[tactic(auto, using(crate::proofs::FirstLemmas::first_legal))]
     fn best_of_first(
         &self,

@@ -26,9 +26,9 @@ enum Look {
 enum Row {
     Line(&'static [u8], &'static [&'static [u8]]),
     Moment(u64, &'static [&'static [u8]]),
-    /// Of so many slices the last alone is replied anything.
+    /// Of the given number of slices the last alone is replied anything.
     Slices(u32, &'static [&'static [u8]]),
-    /// So many slices, whatever is replied.
+    /// The given number of slices, whatever is replied.
     Unheard(u32),
     /// It is so then.
     Shows(Look),
@@ -48,7 +48,7 @@ fn is_replied<A: Allocator>(session: &mut Session<'_, A>, event: Event, want: &[
     replies.len() == want.len()
 }
 
-/// Whether of so many slices the last alone is replied anything, and it these lines.
+/// Whether of `number` slices the last alone is replied anything, and it these lines.
 fn last_is_replied<A: Allocator>(
     session: &mut Session<'_, A>,
     number: u32,
@@ -62,7 +62,7 @@ fn last_is_replied<A: Allocator>(
     is_replied(session, Event::Slice, want)
 }
 
-/// So many slices, whatever is replied.
+/// `number` slices, whatever is replied.
 fn unheard<A: Allocator>(session: &mut Session<'_, A>, number: u32) {
     for _ in 0..number {
         session.event(Event::Slice);
@@ -294,7 +294,7 @@ fn goes_by_the_tables(rt: HostRuntime) {
     }
 }
 
-/// A slice within so many positions: how many lines it was replied, or that it was abandoned; and how many positions it asked for.
+/// A slice within `most` positions: how many lines it was replied, or that it was abandoned; and how many positions it asked for.
 fn within<A: Allocator>(session: &mut Session<'_, A>, most: u64) -> (Option<usize>, u64) {
     let mut nodes = 7;
     let made = match session.slice_within(&mut AtMost { nodes: most }, &mut nodes) {
@@ -355,7 +355,7 @@ const AGAIN: &[Row] = &[
     Line(b"stop", &[b"bestmove b1a3"]),
 ];
 
-/// The game is set while so many bytes of the heap are free: whether a growth was refused. Then it is set as usual, once they are free again.
+/// The game is set while `free` bytes of the heap are free: whether a growth was refused. Then it is set as usual, once they are free again.
 fn is_starved_at(
     rt: &impl Abort,
     heap: &LocalHeap,
@@ -375,7 +375,7 @@ fn is_starved_at(
 
 const MATE: &[Row] = &[Line(MATED, &[])];
 
-/// A position is set while so many bytes of the heap are free: whether a growth was refused. Then the mated position is still there.
+/// A position is set while `free` bytes of the heap are free: whether a growth was refused. Then the mated position is still there.
 fn is_starved(
     rt: &impl Abort,
     heap: &LocalHeap,
@@ -415,7 +415,7 @@ const AFTER_E4: &[Row] = &[
     Slices(20, &[b"info depth 1 score cp 10 pv b8c6", b"bestmove b8c6"]),
 ];
 
-/// `go` lines of which one slice is enough, which tells e2e4.
+/// `go` lines for which one slice is enough, which finds e2e4.
 const ASKED_FOR: [&'static [u8]; 7] = [
     b"go depth 1 searchmoves e2e4",
     b"go depth -4 searchmoves e2e4",
@@ -506,7 +506,7 @@ fn goes_four_plies_deep_or_as_time_allows(rt: HostRuntime) {
     }
 }
 
-/// Appends the text so many times.
+/// Appends the text `times` times.
 fn put_times<A: Allocator>(
     out: &mut Vec<u8, A>,
     text: &[u8],

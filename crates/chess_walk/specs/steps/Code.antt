@@ -1,4 +1,4 @@
--- Visits as tuples, by which a proof tells them apart.
+-- Visits as tuples, by which a proof distinguishes them.
 use Rattle.std.specs.Prelude.{ℕ, Bool, Option, refl}
 use Rattle.std.specs.Coded.{Coded, code_by, coded×, coded_ℕ, coded_bool, coded_option}
 use Rattle.chess_types.specs.board.MoveParts.{MoveParts}

@@ -1,4 +1,4 @@
--- Where the line of a walk stands.
+-- Where the line of a walk is.
 --   before_move    the line before the move of a visit, from the line to the one before it
 --   with_any       a line with a move, if there is one
 --   after_visit    the line with the visit's move

@@ -1,6 +1,6 @@
 use Rattle.std.proofs.Common.{◌≡◌, ◌+◌, if◌then◌else◌, [], Ok, Some, rules, sym, ap, subst, ◌∙◌}
 use Rattle.byte_streams.specs.Calls.{Carries}
-use Rattle.chess_pgn.specs.Sources.{GoesOn, HasFault, IsSound}
+use Rattle.chess_pgn.specs.Sources.{HasFault, IsSound, MayGoOn}
 use Rattle.chess_pgn.specs.steps.GameCode.{game_of}
 use Rattle.chess_games.specs.Forms.{text_in}
 use Rattle.chess_games.specs.Filtered.{IsLeftOff}
@@ -46,7 +46,7 @@ returns-in_err-pass-in-Err-clause-off g c =
     let refused = read_fault g.R.Source.gives g.R.Source.failed g.R.Source.ended c.loop-before.games.text c.next_with.new.self.text c.next_with.result c.in-Err.fault c.in-Err.is (c.next_with.ensures.fault c.loop-before.invariant.none) in
     let is = subst (λ x. HasFault g.R.Source.gives g.R.Source.failed g.R.Source.ended c.loop-before.games.text c.next_with.new.self.text x) c.in_ok-fault-in-Err.ensures.fault refused in
     let kept = err_holds (λ f. c.next_with.new.self.fault ≡ Some f) c.next_with.result c.in-Err.fault c.in-Err.is c.next_with.ensures.sticky in
-    let on = subst (λ f. GoesOn f) (sym kept) c.in_ok-fault-in-Err.ensures.goes_on in
+    let on = subst (λ f. MayGoOn f) (sym kept) c.in_ok-fault-in-Err.ensures.goes_on in
     let left = left_off g.R.Source.gives g.R.Source.failed c.loop-before.games c.next_with.new.self c.next_with.result c.in-Err.fault c.in-Err.is c.next_with.ensures.sticky on (c.next_with.ensures.leaves c.loop-before.invariant.none) in
     let real = not_memory c.next_with.new.self.fault c.in-Err.fault fault kept c.in_ok-fault-in-Err.ensures.fault on in
     handed_on (λ f. IsLeftOff g.R.Source.gives g.R.Source.failed g.R.Source.ended g.W.Sink.takes g.W.Sink.failed c.args.wanted.now.form c.args.wanted.now.part c.args.games.now.text c.args.writer.now c.loop-before.writer f) c.from_residual-in_err-pass-in-Err.result failure

@@ -3,7 +3,7 @@ use Rattle.std.proofs.lemmas.List.{length-append}
 use Rattle.chess_types.specs.board.Position.{PositionParts}
 use Rattle.chess_types.specs.board.Lines.{last}
 use Rattle.chess_types.specs.board.Repetition.{repetitions}
-use Rattle.chess_draws.specs.declared.ply.Ply.{Ply}
+use Rattle.chess_draws.specs.steps.KeptPlies.{PlyParts}
 use Rattle.chess_draws.specs.steps.Plies.{move_of}
 use Rattle.chess_draws.specs.steps.LookBack.{IsTrack, came_back}
 use Rattle.chess_draws.specs.LineParts.{LineParts}
@@ -16,12 +16,12 @@ returns-clause-value g c =
     λ i. c.as_slice.ensures.value i ++ c.as_slice-2.ensures.value i in
     let clock = ap (λ (s : PositionParts). s.clock) (c.behind-self.view_is ∙ c.position.ensures.value) in
     let counted : c.look_back-count.result.0 ≡ came_back c.self.inside.root (map move_of (c.self.inside.plies.items ++ c.self.inside.looked.items)) c.look_back-count.result.1 =
-    subst (λ (xs : List Ply). (start : PositionParts) → IsTrack start xs c.self.inside.here (length xs - c.behind-self.inside.clock) → c.look_back-count.result.0 ≡ came_back start (map move_of xs) c.look_back-count.result.1) all
+    subst (λ (xs : List PlyParts). (start : PositionParts) → IsTrack start xs c.self.inside.here (length xs - c.behind-self.inside.clock) → c.look_back-count.result.0 ≡ came_back start (map move_of xs) c.look_back-count.result.1) all
     c.look_back-count.ensures.count c.self.inside.root (tracked c.self.invariant.line c.behind-self.inside.clock clock) in
     ap (λ (n : ℕ). n + 1) counted
     ∙ came_often c.self.invariant.line c.behind-self.inside.clock c.look_back-count.result.1 clock
-    (subst (λ (xs : List Ply). 2 * c.look_back-count.result.1 ≤ length xs) all c.look_back-count.ensures.within)
-    (subst (λ (xs : List Ply). (n : ℕ) → n ≤ c.behind-self.inside.clock → n ≤ length xs → n ≤ 2 * c.look_back-count.result.1 + 1) all
+    (subst (λ (xs : List PlyParts). 2 * c.look_back-count.result.1 ≤ length xs) all c.look_back-count.ensures.within)
+    (subst (λ (xs : List PlyParts). (n : ℕ) → n ≤ c.behind-self.inside.clock → n ≤ length xs → n ≤ 2 * c.look_back-count.result.1 + 1) all
     c.look_back-count.ensures.reaches)
     ∙ ap (λ (l : LineParts). repetitions l.line) c.self.view_is
 

@@ -6,7 +6,7 @@ use Rattle.chess_types.specs.board.Board.{man_at}
 use Rattle.chess_types.proofs.board.placement.Placement.empty.Goals as goal
 
 pub invariant_of-result : goal.invariant_of-result
-invariant_of-result c = rw c.contents_of.ensures (λ colour. omega arith, c.empty.ensures (man_at (map.empty {K = _} {X = Man} {R = nat_cmp})) (map.get-empty nat_cmp), refl)
+invariant_of-result c = rw c.empty_contents.ensures (λ colour. omega arith, c.empty.ensures (man_at (map.empty {K = _} {X = Man} {R = nat_cmp})) (map.get-empty nat_cmp), refl)
 
 pub returns : goal.returns
-returns c = rw c.contents_of.ensures refl
+returns c = rw c.empty_contents.ensures refl

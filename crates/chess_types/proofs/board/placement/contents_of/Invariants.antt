@@ -1,8 +1,0 @@
-use Rattle.std.proofs.Common.{◌≡◌, take, length}
-use Rattle.chess_types.proofs.board.placement.contents_of.Given as goal
-
-abbrev pub invariant-loop-number : goal.invariant-loop-number
-invariant-loop-number l = record {
-  same : take l.number l.contents ≡ take l.number l.cells;
-  len : length l.contents ≡ 64;
-}
