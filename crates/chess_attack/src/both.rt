@@ -46,6 +46,13 @@ impl<A: Follower, B: Follower> Follower for Both<A, B> {
         self.second.begin();
     }
 
+    fn copied(&self) -> Both<A, B> {
+        Both {
+            first: self.first.copied(),
+            second: self.second.copied(),
+        }
+    }
+
     #[inline(always)]
     fn sees(&self, placement: &Placement, colour: Colour, square: Square) -> bool {
         self.first.sees(placement, colour, square)

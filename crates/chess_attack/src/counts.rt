@@ -4,6 +4,7 @@ ghost use Rattle.std.specs.Prelude.{◌≡◌, ◌+◌, ◌*◌, ◌<◌, ◌≤
 ghost use Rattle.std.specs.FinMap as map;
 ghost use Rattle.chess_types.specs.board.Board.{man_at};
 ghost use Rattle.chess_types.specs.board.Men.{men_of};
+ghost use Rattle.chess_types.specs.board.Position.{start};
 ghost use Rattle.chess_types.specs.board.Attack.{is_attacked};
 ghost use Rattle.chess_attack.specs.KeptCounts.{AreCounts, changed_of};
 
@@ -43,6 +44,16 @@ impl Counts {
     {
         Counts {
             tally: Tally::zero(),
+        }
+    }
+
+    /// The attack counts of the placement in which a game begins (FIDE Laws 2.3), and no tick.
+    pub fn start() -> Counts
+        ensures agrees { AreCounts result start.placement }
+        ensures ticks { result.ticks ≡ 0 }
+    {
+        Counts {
+            tally: Tally::start(),
         }
     }
 
@@ -147,6 +158,12 @@ impl Follower for Counts {
         ensures agrees { (board : Board) → AreCounts self.old board → AreCounts self.new board }
     {
         self.tally.begin();
+    }
+
+    fn copied(&self) -> Counts {
+        Counts {
+            tally: self.tally.copied(),
+        }
     }
 
     #[inline(always)]

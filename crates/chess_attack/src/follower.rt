@@ -60,6 +60,10 @@ pub trait Follower {
         ensures agrees { (board : Board) → agrees self.old board → agrees self.new board }
         ensures begins { begins self.old self.new };
 
+    /// Another one with all that is kept.
+    fn copied(&self) -> Self
+        ensures { result ≡ self.now };
+
     /// Whether a man of the colour attacks the square (FIDE Laws 3.1.2): by what is kept, where that tells, else by sets of squares.
     fn sees(&self, placement: &Placement, colour: Colour, square: Square) -> bool
         requires agrees { agrees self.now placement.now }

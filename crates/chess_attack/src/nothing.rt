@@ -36,6 +36,10 @@ impl Follower for Nothing {
     #[inline(always)]
     fn begin(&mut self) {}
 
+    fn copied(&self) -> Nothing {
+        Nothing
+    }
+
     #[inline(always)]
     fn sees(&self, placement: &Placement, colour: Colour, square: Square) -> bool {
         is_attacked(placement, colour, square)

@@ -1,10 +1,40 @@
 //! The counts of both colours on all squares, and the ticks: the only code that writes a count.
 
-ghost use Rattle.std.specs.Prelude.{◌≡◌, ◌+◌, ◌<◌, min};
+ghost use Rattle.std.specs.Prelude.{◌≡◌, ℕ, ◌+◌, ◌<◌, min};
+ghost use Rattle.chess_types.specs.declared.board.man.Colour.{Colour};
+ghost use Rattle.chess_types.specs.board.Board.{man_at};
+ghost use Rattle.chess_types.specs.board.Attack.{count};
+ghost use Rattle.chess_types.specs.board.Position.{start};
 
 use crate::change::Change;
 use chess_types::{Colour, Square};
 use std::marker::Model;
+
+/// How many of White's men attack each square as a game begins, from a1 to h8.
+#[rattlefmt::skip]
+const WHITE_AT_START: [u8; 64] = [
+    0, 1, 1, 1, 1, 1, 1, 0,
+    1, 1, 1, 4, 4, 1, 1, 1,
+    2, 2, 3, 2, 2, 3, 2, 2,
+    0, 0, 0, 0, 0, 0, 0, 0,
+    0, 0, 0, 0, 0, 0, 0, 0,
+    0, 0, 0, 0, 0, 0, 0, 0,
+    0, 0, 0, 0, 0, 0, 0, 0,
+    0, 0, 0, 0, 0, 0, 0, 0,
+];
+
+/// How many of Black's do.
+#[rattlefmt::skip]
+const BLACK_AT_START: [u8; 64] = [
+    0, 0, 0, 0, 0, 0, 0, 0,
+    0, 0, 0, 0, 0, 0, 0, 0,
+    0, 0, 0, 0, 0, 0, 0, 0,
+    0, 0, 0, 0, 0, 0, 0, 0,
+    0, 0, 0, 0, 0, 0, 0, 0,
+    2, 2, 3, 2, 2, 3, 2, 2,
+    1, 1, 1, 4, 4, 1, 1, 1,
+    0, 1, 1, 1, 1, 1, 1, 0,
+];
 
 /// A count for each colour and square, and the ticks: how many changes of one were made. Contracts see the counts by
 /// `count_in`. No other code can write a count.
@@ -37,6 +67,29 @@ impl Tally {
             white: [0; 64],
             black: [0; 64],
             ticks: 0,
+        }
+    }
+
+    /// The attack counts of the placement in which a game begins (FIDE Laws 2.3), and no tick.
+    pub fn start() -> Tally
+        ensures counts { (colour : Colour) (square : ℕ) → square < 64 → count_in result colour square ≡ count (man_at start.placement) colour square }
+        ensures ticks { result.ticks ≡ 0 }
+    {
+        Tally {
+            white: WHITE_AT_START,
+            black: BLACK_AT_START,
+            ticks: 0,
+        }
+    }
+
+    /// Another one with the same counts and ticks.
+    pub fn copied(&self) -> Tally
+        ensures { result ≡ self.now }
+    {
+        Tally {
+            white: self.white,
+            black: self.black,
+            ticks: self.ticks,
         }
     }
 

@@ -8,7 +8,6 @@ pub mod TextLemmas
 pub mod ListLemmas
 pub mod AnswerLemmas
 pub mod PlaceLemmas
-pub mod CopyLemmas
 pub mod GotoLemmas
 pub mod EventLemmas
 pub mod WorkLemmas

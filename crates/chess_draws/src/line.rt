@@ -36,7 +36,7 @@ use chess_moves::{has_legal, in_check, is_legal, moves, moves_into};
 use chess_play::{Followers, Live, LiveWith};
 use chess_san::SanFault;
 use chess_types::{Claims, Colour, Move, Position, Status};
-use std::alloc::Allocator;
+use std::alloc::{AllocError, Allocator};
 use std::marker::Model;
 
 /// The most plies of a line.
@@ -106,6 +106,28 @@ impl<F: Follower, A: Allocator> LineWith<F, A> {
             live,
             compared: 0,
         }
+    }
+
+    /// Another line with the same moves and no less room, in the memory of that allocator; an error where there is none.
+    pub fn copied(&self, alloc: A) -> Result<LineWith<F, A>, AllocError>
+        requires none { self.now.looked ≡ 0 }
+        ensures line { IfOk result (λ copy. copy.line ≡ self.now.line) }
+        ensures looked { IfOk result (λ copy. copy.looked ≡ 0) }
+        ensures words { IfOk result (λ copy. copy.words ≡ self.now.words) }
+        ensures ticks { IfOk result (λ copy. copy.ticks ≡ self.now.ticks) }
+        ensures room { IfOk result (λ copy. self.now.room ≤ copy.room) }
+        ensures compared { IfOk result (λ copy. copy.compared ≡ self.now.compared) }
+    {
+        let mut plies = Vec::with_capacity(alloc, self.plies.capacity())?;
+        plies.extend_from_slice(&self.plies)?;
+        Ok(LineWith {
+            root: self.root.clone()?,
+            plies,
+            looked: ArrayVec::new(),
+            here: self.here,
+            live: self.live.copied(),
+            compared: self.compared,
+        })
     }
 
     /// Takes the last move away; `None` at the start of the line.

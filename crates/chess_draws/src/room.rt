@@ -4,7 +4,7 @@ ghost use Rattle.std.specs.Prelude.{◌≡◌, ◌<◌, ◌≤◌, OnErr, OnOk, 
 
 use std::alloc::{AllocError, Allocator};
 
-/// Makes room for one item more; where there is none, for so many, at most 64, and an eighth of those that there are, so that little memory lies idle.
+/// Makes room for one item more; where there is none, for `more`, at most 64, and an eighth of those that there are, so that little memory lies idle.
 pub fn make_room<T, A: Allocator>(items: &mut Vec<T, A>, more: usize) -> Result<(), AllocError>
     requires some { 0 < more }
     requires few { more ≤ 64 }

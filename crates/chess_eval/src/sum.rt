@@ -3,6 +3,7 @@
 ghost use Rattle.std.specs.Prelude.{◌≡◌, ◌≢◌, Some, pos, neg_ℤ, ◌≤ℤ◌, int_div};
 ghost use Rattle.std.specs.FinMap as map;
 ghost use Rattle.chess_types.specs.board.Board.{Board, Men, man_at};
+ghost use Rattle.chess_types.specs.board.Position.{start};
 ghost use Rattle.chess_eval.specs.Evaluation.{for_white as for_white_of, balance_there, AreSumsOf, tapered as tapered_of, evaluation, IsWithin, HasArmies};
 ghost use Rattle.chess_eval.specs.Worth.{middle_of, end_of};
 ghost use Rattle.chess_eval.specs.Mirror.{IsMirror, mirrored};
@@ -91,6 +92,17 @@ impl Sum {
             middle: 0,
             end: 0,
             weights: 0,
+        }
+    }
+
+    /// The sums of the placement in which a game begins (FIDE Laws 2.3): no side is ahead.
+    pub fn start() -> Sum
+        ensures { AreSumsOf result start.placement }
+    {
+        Sum {
+            middle: 0,
+            end: 0,
+            weights: 24,
         }
     }
 
@@ -259,6 +271,14 @@ impl Follower for Sum {
     }
 
     fn begin(&mut self) {}
+
+    fn copied(&self) -> Sum {
+        Sum {
+            middle: self.middle,
+            end: self.end,
+            weights: self.weights,
+        }
+    }
 
     fn sees(&self, placement: &Placement, colour: Colour, square: Square) -> bool {
         is_attacked(placement, colour, square)

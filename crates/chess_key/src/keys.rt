@@ -11,7 +11,6 @@ ghost use Rattle.chess_key.specs.Keys.{word_on as word_on_of, key_of};
 use crate::table::KeyTable;
 use chess_attack::{Follower, is_attacked};
 use chess_types::{Colour, Man, Placement, Square};
-use std::alloc::AllocError;
 use std::marker::Model;
 
 /// The word of what stands on the square; 0 where nothing does.
@@ -89,20 +88,6 @@ impl<'k> Key<'k> {
     }
 }
 
-impl<'k> Clone for Key<'k> {
-    ghost is_clone = { λ key copy. copy ≡ key };
-
-    ghost is_infallible = { λ _. ⊤ };
-
-    /// The same key by the same table; never an error.
-    fn clone(&self) -> Result<Key<'k>, AllocError> {
-        Ok(Key {
-            table: self.table,
-            number: self.number,
-        })
-    }
-}
-
 impl<'k> Follower for Key<'k> {
     ghost use Rattle.chess_key.specs.Keys.{IsKeyOf};
     ghost use Rattle.std.proofs.Common.{refl, ap, arith, ◌∙◌};
@@ -151,6 +136,13 @@ impl<'k> Follower for Key<'k> {
     }
 
     fn begin(&mut self) {}
+
+    fn copied(&self) -> Key<'k> {
+        Key {
+            table: self.table,
+            number: self.number,
+        }
+    }
 
     fn sees(&self, placement: &Placement, colour: Colour, square: Square) -> bool {
         is_attacked(placement, colour, square)

@@ -3,6 +3,7 @@
 ghost use Rattle.std.specs.Prelude.{◌≡◌, ◌<◌, None, IsSome};
 ghost use Rattle.std.specs.FinMap as map;
 ghost use Rattle.chess_types.specs.board.Men.{men_of};
+ghost use Rattle.chess_types.specs.board.Position.{start};
 ghost use Rattle.chess_play.specs.steps.Followed.{AreKept, Works};
 
 use chess_attack::{Counts, Follower};
@@ -29,6 +30,19 @@ impl<'k> Model for Followers<'k> {
 
 impl<'k> Followers<'k> {
     ghost use Rattle.chess_types.specs.board.Board.{Board};
+
+    /// Those of the placement in which a game begins (FIDE Laws 2.3), with no tick.
+    pub fn start(table: &'k KeyTable) -> Followers<'k>
+        ensures agrees { AreKept result start.placement }
+        ensures words { result.key.words ≡ table.now }
+        ensures ticks { result.counts.ticks ≡ 0 }
+    {
+        Followers {
+            counts: Counts::start(),
+            sum: Sum::start(),
+            key: Key::of(table, &Placement::start()),
+        }
+    }
 
     /// Those of the placement, with no tick.
     pub fn of(placement: &Placement, table: &'k KeyTable) -> Followers<'k>
@@ -102,6 +116,14 @@ impl<'k> Follower for Followers<'k> {
 
     fn begin(&mut self) {
         self.counts.begin();
+    }
+
+    fn copied(&self) -> Followers<'k> {
+        Followers {
+            counts: self.counts.copied(),
+            sum: self.sum.copied(),
+            key: self.key.copied(),
+        }
     }
 
     #[inline(always)]

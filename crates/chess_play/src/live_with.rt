@@ -61,6 +61,19 @@ impl<F: Follower> LiveWith<F> {
         &self.setup
     }
 
+    /// Another one with the same position and all that is kept beside it.
+    pub fn copied(&self) -> LiveWith<F>
+        ensures { result ≡ self.now }
+    {
+        let Ok(setup) = self.setup.clone() else {
+            unreachable!();
+        };
+        LiveWith {
+            setup,
+            kept: self.kept.copied(),
+        }
+    }
+
     /// What is kept beside it.
     #[inline(always)]
     pub fn kept(&self) -> &F

@@ -22,7 +22,7 @@ use chess_draws::{Line, LineFault, LineWith};
 use chess_key::KeyTable;
 use chess_play::{Followers, LiveWith};
 use chess_types::{Move, Position};
-use std::alloc::Allocator;
+use std::alloc::{AllocError, Allocator};
 use std::marker::Model;
 
 /// A game tree with a cursor, and the line of moves from the root to it, which every call keeps together. Contracts see the
@@ -48,6 +48,17 @@ impl<'a, F: Follower, A: Allocator> Model for AnalysisWith<'a, F, A> {
     ghost view = { λ a. a.tree };
 
     ghost invariant = { λ a. IsAnalysed a.tree a.line };
+}
+
+impl<'a, F: Follower, A: Allocator> Clone for AnalysisWith<'a, F, A> {
+    ghost is_clone = { λ analysis copy. copy ≡ analysis };
+
+    /// The same tree with its cursor and its line, in the same allocator's memory; an error where there is none.
+    fn clone(&self) -> Result<AnalysisWith<'a, F, A>, AllocError> {
+        let tree = self.tree.clone()?;
+        let line = self.line.copied(tree.alloc())?;
+        Ok(AnalysisWith { tree, line })
+    }
 }
 
 /// An analysis whose positions have attack counts, evaluation and key.

@@ -1,8 +1,9 @@
 -- The position in which a game begins is a setup, and quiet.
-use Rattle.std.proofs.Common.{◌≡◌, ℕ, ◌<◌, get_or, Option, None, Bool, true, false, refl, ◌∙◌, ap, arith}
+use Rattle.std.proofs.Common.{◌≡◌, ℕ, ◌<◌, get_or, length, ◌≤◌, Option, None, Bool, true, false, refl, ◌∙◌, ap, arith}
 use Rattle.std.specs.Prelude.{count_by, not, ◌&&◌, ◌||◌, nat_lt}
 use Rattle.std.specs.List.{list_all}
 use Rattle.std.proofs.lemmas.Bool.Decides.{nat_tests}
+use Rattle.std.proofs.lemmas.List.{get_or_past}
 use Rattle.chess_types.specs.declared.board.man.Colour.{Colour}
 use Rattle.chess_types.specs.declared.board.man.Colour.TheVariants.{White, Black}
 use Rattle.chess_types.specs.declared.board.position.Wing.{Wing}
@@ -20,12 +21,27 @@ use Rattle.chess_types.proofs.MenLemmas.{count_squares-board_of}
 use Rattle.chess_types.proofs.SquareLemmas.{every_square}
 
 -- what stands on the squares, as a list gives it
-start_look : Men
+unfoldable pub start_look : Men
 start_look s = get_or start_cells s None
 
-start_look-is : man_at (board_of start_cells) ≡ start_look
+pub start_cell : (s : ℕ) → man_at (board_of start_cells) s ≡ start_look s
 unfolding start_look
-start_look-is i s = get-board_of start_cells s i
+start_cell s = get-board_of start_cells s
+
+start_look-is : man_at (board_of start_cells) ≡ start_look
+start_look-is i s = start_cell s i
+
+pub start_placed : man_at start.placement ≡ start_look
+unfolding start
+start_placed = start_look-is
+
+pub start_length : length start_cells ≡ 64
+unfolding start_cells
+start_length = refl
+
+pub start_past : (s : ℕ) → 64 ≤ s → start_look s ≡ None
+unfolding start_look
+start_past s ge = get_or_past start_cells s None (rw start_length ge)
 
 start_census : (test : Option Man → Bool) → count_squares test (board_of start_cells) ≡ count_by test start_cells
 start_census test = count_squares-board_of test start_cells (unfold start_cells in refl)

@@ -15,6 +15,7 @@ mod placement;
 mod position;
 mod square;
 mod square_set;
+mod start;
 
 pub use axis::Axis;
 pub use cell::{holds_pawn, is_king_of, is_man, is_of, men_in};

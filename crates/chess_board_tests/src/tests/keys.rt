@@ -63,7 +63,7 @@ fn any_order_and_back_to_empty(rt: HostRuntime) {
     }
     assert!(rt; is_of(&table, &board.key, &board.placement));
     assert!(rt; !is_empty(&table, &board.key));
-    let whole = board.key.clone().expect(&rt, "no memory is needed");
+    let whole = board.key.copied();
     assert!(rt; whole == board.key);
     clear_all(&rt, &mut board);
     assert!(rt; is_empty(&table, &board.key));

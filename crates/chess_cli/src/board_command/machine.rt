@@ -47,7 +47,7 @@ use chess_key::KeyTable;
 use chess_loop::{LineHandler, OutputBuffer, Unread};
 use chess_moves::is_legal;
 use chess_pgn::write_tree;
-use chess_play::Live;
+use chess_play::{Followers, Live};
 use chess_san::SanFault;
 use chess_tree::{Analysis, Tree, TreeFault};
 use chess_types::{Claims, Colour, Move, Position, SquareSet, Status};
@@ -88,7 +88,7 @@ impl<'k, A: Allocator> Board<'k, A> {
     pub fn new(alloc: &'k A, table: &'k KeyTable) -> Result<Board<'k, A>, TreeFault>
         ensures { IfOk result (λ board. board ≡ new_tree) }
     {
-        let analysis = Analysis::new(alloc, start_position(), table)?;
+        let analysis = Analysis::with(alloc, start_position(), Followers::start(table))?;
         Ok(Board {
             analysis,
             alloc,
@@ -101,14 +101,8 @@ impl<'k, A: Allocator> Board<'k, A> {
         ensures same { IfOk result (λ board. board ≡ self.now) }
         ensures memory { IfErr result (λ fault. fault ≡ NoMemory) }
     {
-        let tree = self.analysis.tree();
-        let path = tree.path()?;
-        let mut analysis = Analysis::of(tree.clone()?, self.table)?;
-        let Ok(()) = analysis.goto(path.as_slice()) else {
-            unreachable!();
-        };
         Ok(Board {
-            analysis,
+            analysis: self.analysis.clone()?,
             alloc: self.alloc,
             table: self.table,
         })

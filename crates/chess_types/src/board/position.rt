@@ -2,7 +2,7 @@
 
 ghost use Rattle.std.specs.Prelude.{◌≡◌, ◌<◌, replicate, ⊤};
 ghost use Rattle.chess_types.specs.declared.board.man.Kind.TheVariants.{Pawn};
-ghost use Rattle.chess_types.specs.board.Position.{OpponentNotInCheck, back_rank, cell_of, holds, home_square, king_home, rook_home, start, start_cells};
+ghost use Rattle.chess_types.specs.board.Position.{OpponentNotInCheck, holds, home_square, king_home, rook_home, start};
 ghost use Rattle.chess_types.specs.board.Pseudo.{castles_to, crossed, reached};
 ghost use Rattle.chess_types.specs.board.After.{is_castling};
 ghost use Rattle.std.specs.Cmp.{partial_equiv_from_equiv};
@@ -223,48 +223,6 @@ impl Eq for Setup {
     ghost laws = { same_state-laws };
 }
 
-// A man on a square.
-fn cell_of(colour: Colour, kind: Kind) -> Option<Man>
-    ensures { result ≡ cell_of colour kind }
-{
-    Some(Man { colour, kind })
-}
-
-// A side's men behind its pawns, from file a.
-fn back_rank(colour: Colour) -> [Option<Man>; 8]
-    ensures { result ≡ back_rank colour }
-{
-    [
-        cell_of(colour, Kind::Rook),
-        cell_of(colour, Kind::Knight),
-        cell_of(colour, Kind::Bishop),
-        cell_of(colour, Kind::Queen),
-        cell_of(colour, Kind::King),
-        cell_of(colour, Kind::Bishop),
-        cell_of(colour, Kind::Knight),
-        cell_of(colour, Kind::Rook),
-    ]
-}
-
-// A side's pawns.
-fn pawns(colour: Colour) -> [Option<Man>; 8]
-    ensures { result ≡ replicate 8 (cell_of colour Pawn) }
-{
-    [cell_of(colour, Kind::Pawn); 8]
-}
-
-// The 64 squares as a game begins.
-fn start_cells() -> [Option<Man>; 64]
-    ensures { result ≡ start_cells }
-{
-    let mut cells = [None; 64];
-    cells[..8].copy_from_slice(&back_rank(Colour::White));
-    cells[8..16].copy_from_slice(&pawns(Colour::White));
-    cells[48..56].copy_from_slice(&pawns(Colour::Black));
-    cells[56..].copy_from_slice(&back_rank(Colour::Black));
-    cells
-}
-
 /// A well-formed position: a setup in which the side not to move isn't in check.
 #[derive(Debug, Drop)]
 pub struct Position {
@@ -326,7 +284,7 @@ impl Position {
         ensures { result ≡ start }
     {
         Position::new(Setup {
-            placement: Placement::from_cells(start_cells()),
+            placement: Placement::start(),
             side: Colour::White,
             rights: Rights {
                 white_king: true,
