@@ -1,6 +1,6 @@
 /*
- * Many boards at once: how much memory each takes, by the count of the C library's malloc (glibc), and how many games of 80 plies a second are played and judged by
- * four threads.
+ * Many boards at once: how much memory each takes, by the count of the C library's malloc (glibc), how many games of 80 plies a second are played and judged by
+ * four threads, and how many boards one thread makes or copies, and frees.
  *
  *     cc -O2 -pthread tests/c/many.c -Iinclude out/libjatshegi.a && ./a.out 100000
  */
@@ -92,6 +92,17 @@ static void run(const char *name, void *(*work)(void *), struct share *shares, d
     printf("%-28s %10.0f boards a second, %8.0f bytes a board\n", name, (double)many / (now() - begun), (held() - before) / (double)many);
 }
 
+/* Says how many boards a second one thread makes, or copies, and frees, one after another. */
+static void run_alone(const char *name, const struct jatshegi_board *from) {
+    double begun = now();
+    for (size_t i = 0; i < many; i++) {
+        struct jatshegi_board board = JATSHEGI_NO_BOARD;
+        check(from ? jatshegi_board_copy(from, &board) : jatshegi_board_new(&keys, &board));
+        jatshegi_board_free(&board);
+    }
+    printf("%-28s %10.0f boards a second\n", name, (double)many / (now() - begun));
+}
+
 int main(int count, char **words) {
     static struct share shares[THREADS];
     long over = 0;
@@ -105,7 +116,10 @@ int main(int count, char **words) {
     }
     double before = held();
     run("made", make_share, shares, before);
+    run_alone("made and freed, one thread", NULL);
+    run_alone("copied and freed", &boards[0]);
     run("played 80 plies and judged", play_share, shares, before);
+    run_alone("copied with 80 plies", &boards[0]);
     run("freed", free_share, shares, before);
     for (int i = 0; i < THREADS; i++) over += shares[i].over;
     printf("%zu boards, %ld positions in which the game is over\n", many, over);

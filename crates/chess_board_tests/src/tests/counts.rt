@@ -40,9 +40,11 @@ const AT_START: &[[u8; 8]] = &[
 
 #[test]
 fn start_position(rt: HostRuntime) {
-    let counts = Counts::of(&start());
+    let (counts, kept) = (Counts::of(&start()), Counts::start());
     assert_rows(&rt, &counts, Colour::White, AT_START);
     assert_rows(&rt, &counts, Colour::Black, AT_START);
+    assert_rows(&rt, &kept, Colour::White, AT_START);
+    assert_rows(&rt, &kept, Colour::Black, AT_START);
     assert!(rt; !in_check(&start(), Colour::White));
 }
 

@@ -6,7 +6,8 @@ use chess_attack::{Follower, Nothing};
 use chess_draws::{Claims, Line, LineFault, LineWith, Status};
 use chess_fen::read;
 use chess_key::KeyTable;
-use chess_types::{Move, Position};
+use chess_play::Followers;
+use chess_types::{Move, Placement, Position};
 use linked_list_allocator::LocalHeap;
 use std::alloc::Allocator;
 use std::process::Abort;
@@ -15,6 +16,16 @@ use std::test::Fail;
 /// The move of a text.
 fn named(rt: &impl Abort, text: &[u8]) -> Move {
     Move::parse(text).expect(rt, "the text of a move")
+}
+
+/// What is kept as a game begins is that of its position.
+#[test]
+fn begins_as_any_line(rt: HostRuntime) {
+    let table = KeyTable::new([1; 768]);
+    let kept = Followers::start(&table);
+    let found = Followers::of(&Placement::start(), &table);
+    assert!(rt; kept.key == found.key && kept.sum.white() == 0 && found.sum.white() == 0);
+    assert!(rt; Placement::start() == Position::start().setup().placement);
 }
 
 /// The line of a game that begins.
@@ -178,6 +189,27 @@ fn counts_by_positions_and_not_by_keys(rt: HostRuntime) {
     let table = KeyTable::new([0; 768]);
     let mut line = begin(&rt, rt.alloc(), &table);
     run(&rt, &mut line, COUNTED);
+}
+
+const COPIED: &[Row] = &[
+    Row::Plies(9),
+    Row::Count(3),
+    Row::Claims(THREEFOLD),
+    Row::Pop(Some(b"f3g1")),
+    Row::Push(b"f3e5", Ok(())),
+    Row::Count(1),
+];
+
+/// A copy has the moves, and what is done to it leaves the line as it was.
+#[test]
+fn copies_a_line(rt: HostRuntime) -> Result<(), Fail> {
+    let table = KeyTable::new([1; 768]);
+    let mut line = begin(&rt, rt.alloc(), &table);
+    run(&rt, &mut line, COUNTED);
+    let mut copy = line.copied(rt.alloc())?;
+    run(&rt, &mut copy, COPIED);
+    run(&rt, &mut line, COPIED);
+    Ok(())
 }
 
 /// The ticks of the advance of the pawn on d2, in the position of the FEN.

@@ -8,6 +8,15 @@ use super::calls::is_seen;
 use super::trees::a_table;
 use chess_tree::Analysis;
 
+/// Where the rows of `READ` end.
+const COPIED: &[Row] = &[
+    Is(Seen(Path(&[0, 1, 0]))),
+    Is(Plies(3)),
+    Is(Seen(Comment(b"the Sicilian"))),
+    Gives(Answer::Done, Read(b"Nc6")),
+    Is(Seen(Path(&[0, 1, 0, 0]))),
+];
+
 /// A copy has the same nodes, notes and cursor; what is done to it leaves the other as it was.
 #[test]
 fn copies_a_tree(rt: HostRuntime) {
@@ -25,6 +34,19 @@ fn copies_a_tree(rt: HostRuntime) {
     assert!(rt; is_seen(&rt, &copy, ChildCount(0)));
     assert!(rt; is_seen(&rt, analysis.tree(), Path(&[0, 1, 0])));
     assert!(rt; is_seen(&rt, analysis.tree(), Comment(b"the Sicilian")));
+}
+
+/// A copy of an analysis is at the same node, its line with it.
+#[test]
+fn copies_an_analysis(rt: HostRuntime) {
+    let alloc = rt.alloc();
+    let table = a_table();
+    let mut analysis = grown(&rt, &alloc, &table, READ);
+    let Ok(mut copy) = analysis.clone() else {
+        panic!(rt; "no memory");
+    };
+    run(&rt, &mut copy, COPIED);
+    run(&rt, &mut analysis, COPIED);
 }
 
 /// The rows of `READ` once more, from the root.
