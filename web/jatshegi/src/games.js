@@ -9,6 +9,8 @@ const FIRST = 1 << 19;
 const MOST = 1 << 30;
 // This number of bytes decides what a game is repaired to.
 const DECIDED = 1_179_648;
+// What ends a file after its last game has no more bytes.
+const MOST_AT_END = 1 << 20;
 const [LINE_FEED, RETURN, SPACE, BRACKET] = [10, 13, 32, 91];
 // A word or two after an empty line have this number of bytes, with those of both line ends, and what follows them up to whitespace.
 const FIRST_WORDS = 7;
@@ -142,8 +144,9 @@ const TEXTS = {
   keeps: ({ used }, at, place, index) => new Game(theMemory().handed().slice(), index, place, used),
 };
 
-// Or what a list of games says of it:
+// Or what a list of games says of it, in which what ends a file (NUL, `^Z`) is no game:
 const LISTED = {
+  hasNoEnd: true,
   asks(session, at, length, isLast) {
     if (isLast) return ofLast(session, at, length, session.report(at, length));
     const next = session.next(at, length, false);
@@ -227,12 +230,12 @@ class Reader {
       return { end: true };
     }
     if (found.status <= FAULTS) throw strange('a game', found.status);
-    const saved = this.saves ? savedAt(at, length) : null;
+    const saved = this.saves || (this.form.hasNoEnd && this.isEnded && length <= MOST_AT_END) ? savedAt(at, length) : null;
     if (saved?.end) {
       this.#pass(length);
       return saved;
     }
-    if (saved) return this.#game(new Game(saved.bytes, this.count, byte, saved.used), saved.repairs);
+    if (saved && this.saves) return this.#game(new Game(saved.bytes, this.count, byte, saved.used), saved.repairs);
     const { used } = read((session) => session.game(at, length));
     const fault = faultOf(found.status, placeIn(theMemory().bytes.subarray(at, at + length), used, this.passed));
     Object.assign(fault, { index: this.count++, from: byte });

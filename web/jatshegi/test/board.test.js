@@ -274,6 +274,9 @@ test('games of a list', () => {
   const wanted = told(entries(text), (it) => [it.tags(), it.report()]);
   assert.ok(wanted.length > heads.length * tails.length);
   assert.deepEqual(told(listed(text), (it) => [it.tags, it.report]), wanted);
+  for (const end of ['\x1a', '\r\n\0\x1a\0', '\0'.repeat(1_048_576)]) assert.deepEqual([...listed(`1. e4 *${end}`)].map(({ game }) => game?.length), [7]);
+  assert.deepEqual([...listed('e5 *\x1a')].map(({ fault }) => fault?.code), ['Move']);
+  assert.deepEqual([...listed('*\x1a!')].map(({ game, fault }) => game?.length ?? fault.code), [1, 'Token']);
 });
 
 test('games that are saved', async () => {
