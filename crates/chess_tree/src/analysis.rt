@@ -50,7 +50,7 @@ impl<'a, F: Follower, A: Allocator> Model for AnalysisWith<'a, F, A> {
     ghost invariant = { λ a. IsAnalysed a.tree a.line };
 }
 
-impl<'a, F: Follower, A: Allocator> Clone for AnalysisWith<'a, F, A> {
+impl<'a, F: Follower + Drop, A: Allocator> Clone for AnalysisWith<'a, F, A> {
     ghost is_clone = { λ analysis copy. copy ≡ analysis };
 
     /// The same tree with its cursor and its line, in the same allocator's memory; an error where there is none.
