@@ -1,6 +1,7 @@
 //! Tests of keys: the same in any order of puts, by any words, one word for each man on each square.
 
 use super::boards::{Followed, square};
+use chess_attack::Follower;
 use chess_key::{Key, KeyTable};
 use chess_types::{Colour, Kind, Man, Placement, Square};
 use std::process::Abort;
