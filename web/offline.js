@@ -1,6 +1,6 @@
 // Keeps the page's own files of one version in the browser, so that it opens without a net. A new version replaces them as a whole.
 // The list is written by tools/offline.
-const VERSION = 'f5685ca0908859f0';
+const VERSION = '57487883c810c5c2';
 const KEPT = {
   'about.html': 'sha256-Nej96tHtdAtdlyGQe8vatahf+8xzSspGu5FMrkPCPo4=',
   'analysis.js': 'sha256-hJYnAoGHEQGyPt764FR/D4jDfFQ4+x1gz6O6vkj5TUM=',
@@ -18,7 +18,7 @@ const KEPT = {
   'history.js': 'sha256-b2xYiCnIoEXfhgI8jth/7pFno7cjEuzPowCCkZyQYLc=',
   'icon.svg': 'sha256-MIqbBfrY8jneIrbk+mcJq7TJSYDbHm5LwjQhbWTpmWU=',
   'index.html': 'sha256-ZhZjDArkABU0LWOo2tqF3ERQhKalgiMVD+tiY4DL4Qk=',
-  'jatshegi.wasm': 'sha256-0QwLBMPPDoUbXOeuUidh6w88syv0KLlyQcwTztMHAuM=',
+  'jatshegi.wasm': 'sha256-98P1G3cRx3v/IPMxr52gDZTUf7pEfq+Y78fyxvGpujw=',
   'jatshegi/src/boards.js': 'sha256-6isIqeZIN17Febcuk+uu5izw+q54Nzh/Xe8remjeGyY=',
   'jatshegi/src/bytes.js': 'sha256-L1KCUkgWQXHkntmbRa68OSfnQGFQUXUkQyDSGxZvCyE=',
   'jatshegi/src/chess.js': 'sha256-9PUz6z2rNMm/Z9/XnubZU1gO2DrU3JXL7Ph8Tmj4s/U=',
@@ -26,7 +26,7 @@ const KEPT = {
   'jatshegi/src/core.js': 'sha256-VSNkI741KH5gVMOLBLvGx7hW8xeEIkyhOM1fClHceWk=',
   'jatshegi/src/errors.js': 'sha256-1dHDKRiTmZutoLveX/EjRUwQgtCuLswLbieQhB4xB3c=',
   'jatshegi/src/export.js': 'sha256-6EEw1K1/6ALnZHKQM0XneV5Et8Cn/FOwvVxu1ChTL8A=',
-  'jatshegi/src/games.js': 'sha256-K/ylG7x+mpJU5TAXZDHTDC3WhQ9LNBCotQubDvYL/C4=',
+  'jatshegi/src/games.js': 'sha256-ZIDzMaodSM06jDi94KUXYDYk9I5jyEKJai6kfPV4FhI=',
   'jatshegi/src/index.js': 'sha256-mocQUaLq8bxWPxO71uIaOojQtkUlJgyqLRFkkpf+E/Y=',
   'jatshegi/src/memory.js': 'sha256-BEW5eK6PpXP6HHmL/FZrpzjNEsQbOMZqaA1odgnDTF4=',
   'jatshegi/src/move.js': 'sha256-4GxtQFFRwS8wWMZYQVl+WqWhy5qp0pHlLW75pHBGnHg=',
