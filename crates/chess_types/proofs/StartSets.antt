@@ -16,7 +16,7 @@ use Rattle.chess_types.specs.steps.KeptSets.{Gathers, holds_kind, holds_king, ho
 use Rattle.chess_types.proofs.BitLemmas.{contains-word_where}
 use Rattle.chess_types.proofs.StartLemmas.{start_look, start_cell, start_past}
 
--- a word that holds the squares on which a test of what stands there holds, is the set of them
+-- the word of the squares that pass a test of what stands on them, read as a set of squares, is the set that is kept
 pub gathers : (test : Option Man → Bool) (bits : ℕ) → test None ≡ false → bits ≡ word_where (λ s. test (start_look s)) →
     Gathers (set_of bits) test (man_at (board_of start_cells))
 gathers test bits nobody is s =
