@@ -1,6 +1,9 @@
-"""The commands that the pages show: in each block `console`, a line `$ ..` is run, with the lines `> ..` after it, and what follows is its output."""
+"""The commands that the pages show: in each block `console`, a line `$ ..` is run, with the lines `> ..` after it, and what follows is its output. A block `python`
+of the README is run as it stands, and a comment at a line's end is the output of that line."""
+import os
 import re
 import subprocess
+import sys
 import unittest
 
 import runs
@@ -24,3 +27,15 @@ class Commands(unittest.TestCase):
                 )
                 self.assertEqual(ran.stdout.rstrip(), output.rstrip())
         self.assertTrue(found)
+
+    def test_the_first_lines_of_python_run_as_they_stand(self):
+        runs.make("libraries", "--gate")
+        blocks = re.findall(r"^```python\n(.*?)^```$", text_of("README.md"), flags=re.M | re.S)
+        self.assertTrue(blocks)
+        for block in blocks:
+            ran = subprocess.run(
+                [sys.executable, "-"], input=block, env={**os.environ, "PYTHONPATH": f"{runs.TOP}/python"}, stdout=subprocess.PIPE, stderr=subprocess.STDOUT, text=True
+            )
+            with self.subTest(block=block):
+                self.assertEqual(ran.returncode, 0, ran.stdout)
+                self.assertEqual(re.findall(r"  # (.*)$", block, flags=re.M), ran.stdout.splitlines())
