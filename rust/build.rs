@@ -17,9 +17,8 @@ fn main() {
         folders.push(here.join("../out/aarch64-linux"));
         folders.push(here.join("../release/aarch64-linux/lib"));
     }
-    let Some(folder) = folders.iter().find(|folder| folder.join("libjatshegi.a").exists()) else {
-        panic!("jatshegi: there is no libjatshegi.a for {target} in {folders:?}: set JATSHEGI_LIB_DIR to its folder");
-    };
+    let found = folders.iter().find(|folder| folder.join("libjatshegi.a").exists());
+    let folder = found.unwrap_or_else(|| panic!("jatshegi: there is no libjatshegi.a for {target} in {folders:?}: set JATSHEGI_LIB_DIR to its folder"));
     println!("cargo:rerun-if-changed={}", folder.join("libjatshegi.a").display());
     println!("cargo:rustc-link-search=native={}", folder.display());
     println!("cargo:rustc-link-lib=static=jatshegi");

@@ -101,6 +101,37 @@ class Crate(unittest.TestCase):
             self.assertEqual((run.stdout, run.returncode), ("20\n", 0), run.stderr)
 
 
+def named_rust():
+    return re.search(r'^rust-version = "(.*)"$', read("rust/Cargo.toml"), re.M)[1]
+
+
+def folder_of_the_named_rust():
+    """A folder on the path, or Debian's, that has the Rust of Cargo.toml's `rust-version`; None if there is no such folder."""
+    for folder in [*os.get_exec_path(), "/usr/bin"]:
+        if all(shutil.which(tool, path=folder) for tool in ("cargo", "rustc", "rustdoc")):
+            said = subprocess.run([f"{folder}/rustc", "--version"], capture_output=True, text=True).stdout
+            if said.startswith(f"rustc {named_rust()}."):
+                return folder
+    return None
+
+
+class TheNamedRust(unittest.TestCase):
+    def test_its_tests_pass(self):
+        """Under the Rust that Cargo.toml and RUST.md name: another one takes what this one doesn't know."""
+        self.assertIn(f"needs Rust {named_rust()},", read("docs/RUST.md"))
+        folder = folder_of_the_named_rust()
+        if not folder:
+            self.skipTest("the Rust that rust/Cargo.toml names is not installed (Debian 12: apt-get install cargo)")
+        runs.make("libraries")
+        with tempfile.TemporaryDirectory() as target:
+            tools = {"PATH": f"{folder}:{os.environ['PATH']}", "RUSTC": f"{folder}/rustc", "RUSTDOC": f"{folder}/rustdoc"}
+            environment = {**os.environ, **tools, "JATSHEGI_LIB_DIR": f"{runs.TOP}/out", "CARGO_TARGET_DIR": target, "CARGO_TERM_COLOR": "never"}
+            for words in (["build", "--no-default-features"], ["test"]):
+                run = subprocess.run([f"{folder}/cargo", *words, "--offline", "--quiet"], cwd=CRATE, env=environment, stdin=subprocess.DEVNULL, capture_output=True, text=True, timeout=600)
+                self.assertEqual(run.returncode, 0, run.stdout + run.stderr)
+            self.assertGreaterEqual(sum(map(int, re.findall(r"(\d+) passed", run.stdout))), 15)
+
+
 @unittest.skipUnless(shutil.which("cargo"), "cargo is not installed: the packed crate is not built (apt-get install cargo)")
 class Packed(unittest.TestCase):
     """The crate that `make packages` writes, unpacked outside of the repository."""

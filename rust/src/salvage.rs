@@ -154,7 +154,10 @@ pub enum Salvaged {
 /// ```
 /// use jatshegi::{salvage_game, RepairKind, Salvaged};
 ///
-/// let Salvaged::Game(game, used, repairs) = salvage_game(b"1. e2-e4 e5 2. OO Nc6 *")? else { panic!() };
+/// let (game, used, repairs) = match salvage_game(b"1. e2-e4 e5 2. OO Nc6 *")? {
+///     Salvaged::Game(game, used, repairs) => (game, used, repairs),
+///     other => panic!("{other:?}"),
+/// };
 /// assert!(String::from_utf8(game).unwrap().ends_with("1. e4 e5 {cut: O-O Nc6} *\n\n"));
 /// assert_eq!(used, 23);
 /// let kinds: Vec<_> = repairs.iter().map(|repair| repair.kind).collect();

@@ -4,6 +4,7 @@ use crate::error::{checked, Error};
 use crate::moves::Move;
 use crate::sys;
 use crate::text::{short, Text};
+use core::cell::UnsafeCell;
 use core::fmt;
 use core::ptr;
 
@@ -20,7 +21,7 @@ use core::ptr;
 /// # Ok::<(), Error>(())
 /// ```
 pub struct Stop {
-    handle: sys::Stop,
+    handle: UnsafeCell<sys::Stop>,
 }
 
 impl fmt::Debug for Stop {
@@ -29,17 +30,22 @@ impl fmt::Debug for Stop {
     }
 }
 
-// SAFETY: the header says that a handle may go to another thread; one call at a time uses it, since each takes it by `&mut`.
+// SAFETY: the header says that a handle may go to another thread; a `Stop` that is passed on is used by its new owner alone.
 unsafe impl Send for Stop {}
 
 impl Stop {
     fn none() -> Stop {
         Stop {
-            handle: sys::Stop {
+            handle: UnsafeCell::new(sys::Stop {
                 full: false,
                 at: ptr::null_mut(),
-            },
+            }),
         }
+    }
+
+    // The library writes to a handle also where it only looks at the flag; a `Stop` is on one thread at a time, and no call calls back.
+    fn at(&self) -> *mut sys::Stop {
+        self.handle.get()
     }
 
     /// A flag that isn't set.
@@ -48,9 +54,9 @@ impl Stop {
     ///
     /// [`Error::NoMemory`].
     pub fn new() -> Result<Stop, Error> {
-        let mut stop = Stop::none();
+        let stop = Stop::none();
         // SAFETY: the handle is zeros.
-        checked(unsafe { sys::jatshegi_stop_new(&mut stop.handle) })?;
+        checked(unsafe { sys::jatshegi_stop_new(stop.at()) })?;
         Ok(stop)
     }
 
@@ -60,9 +66,9 @@ impl Stop {
     ///
     /// [`Error::NoMemory`].
     pub fn share(&self) -> Result<Stop, Error> {
-        let mut other = Stop::none();
+        let other = Stop::none();
         // SAFETY: the two are not the same handle.
-        checked(unsafe { sys::jatshegi_stop_share(&self.handle, &mut other.handle) })?;
+        checked(unsafe { sys::jatshegi_stop_share(self.at(), other.at()) })?;
         Ok(other)
     }
 
@@ -73,14 +79,14 @@ impl Stop {
     /// None of a handle that is there, as each of this type is.
     pub fn set(&mut self, is_set: bool) -> Result<(), Error> {
         // SAFETY: the handle is one.
-        checked(unsafe { sys::jatshegi_stop_set(&mut self.handle, is_set) })
+        checked(unsafe { sys::jatshegi_stop_set(self.at(), is_set) })
     }
 }
 
 impl Drop for Stop {
     fn drop(&mut self) {
         // SAFETY: the handle is this one's alone.
-        unsafe { sys::jatshegi_stop_free(&mut self.handle) }
+        unsafe { sys::jatshegi_stop_free(self.at()) }
     }
 }
 
@@ -107,7 +113,7 @@ impl Board {
         let stop = stop.unwrap_or(&none);
         let (mut m, mut value, mut visited) = (sys::Move::default(), 0, 0);
         // SAFETY: the handle is one or none, and the outputs are written.
-        checked(unsafe { sys::jatshegi_board_best_within(self.at(), depth, nodes, &stop.handle, &mut m, &mut value, &mut visited) })?;
+        checked(unsafe { sys::jatshegi_board_best_within(self.at(), depth, nodes, stop.at(), &mut m, &mut value, &mut visited) })?;
         Ok((Move::of(m), value))
     }
 
@@ -146,7 +152,7 @@ impl Search<'_> {
         let stop = stop.unwrap_or(&none);
         let (mut left, mut visited) = (0, 0);
         // SAFETY: the handle is one or none, and both numbers are written.
-        checked(unsafe { sys::jatshegi_search_slice_within(self.board.at(), nodes, &stop.handle, &mut left, &mut visited) })?;
+        checked(unsafe { sys::jatshegi_search_slice_within(self.board.at(), nodes, stop.at(), &mut left, &mut visited) })?;
         Ok(left)
     }
 
@@ -243,7 +249,7 @@ impl Engine {
         let (at, mut searched, mut visited) = (self.board.at(), false, 0);
         // SAFETY: the handle is one or none, and the room has that size.
         let replies =
-            short(|text, room, count| unsafe { sys::jatshegi_engine_slice_within(at, nodes, &stop.handle, &mut searched, &mut visited, text, room, count) })?;
+            short(|text, room, count| unsafe { sys::jatshegi_engine_slice_within(at, nodes, stop.at(), &mut searched, &mut visited, text, room, count) })?;
         if searched {
             Ok(replies)
         } else {

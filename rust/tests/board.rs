@@ -286,6 +286,25 @@ impl Chance {
     }
 }
 
+/// The library writes to a shared handle, so its bytes are in an `UnsafeCell`: `None` has no spare value there, and needs bytes of its own.
+#[test]
+fn a_handle_may_be_written_to_behind_a_shared_reference() {
+    use std::{cell::UnsafeCell, mem::size_of};
+    #[repr(C)]
+    struct Handle {
+        _full: bool,
+        _at: *mut u8,
+    }
+    struct Shared {
+        _handle: UnsafeCell<Handle>,
+    }
+    // (an older Rust takes a spare value all the same)
+    if size_of::<Option<Shared>>() > size_of::<Shared>() {
+        assert!(size_of::<Option<Stop>>() > size_of::<Stop>());
+        assert!(size_of::<Option<Board>>() > size_of::<Board>());
+    }
+}
+
 #[test]
 fn boards_of_threads_beside_a_list_of_moves() {
     let threads: Vec<_> = (0..4u64)
