@@ -1,4 +1,4 @@
-"""The released program is what the sources give, and ./chess runs it there and nowhere else."""
+"""The released programs are what the sources give, and ./chess, ./chess_games, ./arbiter and ./perft run them there and nowhere else."""
 import hashlib
 import os
 import platform
@@ -165,14 +165,14 @@ class ADifference(unittest.TestCase):
 
 
 class TheCommand(unittest.TestCase):
-    """./chess in a copy of what it needs, where the kit is not on the path."""
+    """./chess and the commands beside it in a copy of what they need, where the kit is not on the path."""
 
     def setUp(self):
         folder = tempfile.TemporaryDirectory()
         self.addCleanup(folder.cleanup)
         self.top = f"{folder.name}/a clone"
         os.mkdir(self.top)
-        for path in ("chess", "build", "VERSION", "crates.txt"):
+        for path in ("chess", *OTHERS, "build", "VERSION", "crates.txt"):
             shutil.copy2(f"{runs.TOP}/{path}", self.top)
         for path in ("tools", "release"):
             shutil.copytree(f"{runs.TOP}/{path}", f"{self.top}/{path}")
@@ -198,15 +198,54 @@ class TheCommand(unittest.TestCase):
     def test_a_clone_answers_without_the_kit(self):
         self.assertEqual(self.answers(), (0, "ok\n0\n", ""))
 
-    def test_a_greeting_at_a_terminal(self):
+    def test_the_other_programs_answer_without_the_kit(self):
+        for name in OTHERS:
+            with self.subTest(program=name):
+                given = read(f"{runs.TOP}/crates/{name}/stdin")
+                ran, wanted = (subprocess.run([it], input=given, capture_output=True, env=BARE, cwd="/") for it in (f"{self.top}/{name}", f"{self.top}/release/{SYSTEM}/bin/{name}"))
+                self.assertEqual((ran.returncode, ran.stdout, ran.stderr), (wanted.returncode, wanted.stdout, wanted.stderr))
+                self.assertEqual(ran.stdout, read(f"{runs.TOP}/crates/{name}/stdout"))
+                self.assertEqual(self.answers(f"{self.top}/{name}", ["--version"])[1], f"{name} {runs.VERSION}\n")
+
+    def test_another_program_of_changed_sources_or_bytes(self):
+        with open(f"{self.top}/release/{SYSTEM}/bin/arbiter", "ab") as file:
+            file.write(b"\0")
+        status, output, error = self.answers(f"{self.top}/arbiter", [])
+        self.assertEqual((status, output), (126, ""))
+        self.assertIn(f"arbiter: release/{SYSTEM}/bin/arbiter is not the file that release/MANIFEST names, and is not run", error)
+        self.change("crates/chess_report/src/lib.rt", b"//!", b"//! ")
+        for name in OTHERS:
+            with self.subTest(program=name):
+                status, output, error = self.answers(f"{self.top}/{name}", [])
+                self.assertEqual((status, output), (126, ""))
+                self.assertIn(f"{name}: crates/chess_report/src/lib.rt is not as it was at the release", error)
+
+    def test_another_program_is_built_once(self):
+        self.change("crates/chess_report/src/lib.rt", b"//!", b"//! ")
+        path = self.build_by(f'echo built >>"{self.top}/builds"; cp "{runs.TOP}/release/{SYSTEM}/bin/arbiter" "$made"')
+        for _ in range(2):
+            status, output, error = self.answers(f"{self.top}/arbiter", ["--version"], path)
+            self.assertEqual(output, f"arbiter {runs.VERSION}\n", error)
+        self.assertEqual(read(f"{self.top}/builds"), b"built\n")
+        status, _, error = self.answers(f"{self.top}/build", ["nothing"], path)
+        self.assertEqual((status, error), (2, "build: there is no program nothing\n"))
+
+    def at_a_terminal(self, *words, given):
+        """What a command writes to the two streams where a person types."""
         ours, terminal = pty.openpty()
         self.addCleanup(os.close, ours)
-        session = subprocess.Popen([f"{self.top}/chess", "board"], stdin=terminal, stdout=subprocess.PIPE, stderr=subprocess.PIPE, text=True, env=BARE)
+        session = subprocess.Popen(words, stdin=terminal, stdout=subprocess.PIPE, stderr=subprocess.PIPE, text=True, env=BARE)
         os.close(terminal)
-        os.write(ours, b"eval\n\x04")
-        output, error = session.communicate(timeout=runs.MOST_SECONDS)
+        os.write(ours, given + b"\x04")
+        return session.communicate(timeout=runs.MOST_SECONDS)
+
+    def test_a_greeting_at_a_terminal(self):
+        output, error = self.at_a_terminal(f"{self.top}/chess", "board", given=b"eval\n")
         self.assertEqual(output, "0\n")
         self.assertRegex(error, r"\AType `new`.* --help .*Ctrl-D ends\.\n\Z")
+        for name in ("chess_games", "arbiter"):
+            self.assertEqual(self.at_a_terminal(f"{self.top}/{name}", given=b"")[1], f"Games come on the standard input: ./{name} < games.pgn; here Ctrl-D ends them.\n")
+        self.assertEqual(self.at_a_terminal(f"{self.top}/arbiter", "--version", given=b""), (f"arbiter {runs.VERSION}\n", ""))
 
     def test_by_a_link_from_another_folder(self):
         with tempfile.TemporaryDirectory() as folder:

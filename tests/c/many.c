@@ -1,6 +1,6 @@
 /*
- * Many boards at once: how much memory each takes, by the count of the C library's malloc (glibc), how many games of 80 plies a second are played and judged by
- * four threads, and how many boards one thread makes or copies, and frees.
+ * Many boards at once: how much memory each takes, by the count of the C library's malloc (glibc), also with comments, how many games of 80 plies a second are
+ * played and judged by four threads, and how many boards one thread makes or copies, and frees.
  *
  *     cc -O2 -pthread tests/c/many.c -Iinclude out/libjatshegi.a && ./a.out 100000
  */
@@ -76,6 +76,27 @@ static void *play_share(void *at) {
     return NULL;
 }
 
+/* A comment on the last move of each game; then a clock's time on each move. */
+static void *comment_share(void *at) {
+    struct share *share = at;
+    for (size_t i = share->from; i < share->to; i++) check(jatshegi_board_comment(&boards[i], "a", 1));
+    return NULL;
+}
+
+static void *clock_share(void *at) {
+    struct share *share = at;
+    for (size_t i = share->from; i < share->to; i++) {
+        uint32_t depth;
+        for (;;) {
+            check(jatshegi_board_depth(&boards[i], &depth));
+            if (!depth) break;
+            check(jatshegi_board_comment(&boards[i], "[%clk 0:05:00]", 14));
+            check(jatshegi_board_back(&boards[i]));
+        }
+    }
+    return NULL;
+}
+
 static void *free_share(void *at) {
     struct share *share = at;
     for (size_t i = share->from; i < share->to; i++) jatshegi_board_free(&boards[i]);
@@ -120,6 +141,8 @@ int main(int count, char **words) {
     run_alone("copied and freed", &boards[0]);
     run("played 80 plies and judged", play_share, shares, before);
     run_alone("copied with 80 plies", &boards[0]);
+    run("with a comment on the last", comment_share, shares, before);
+    run("with a clock on each move", clock_share, shares, before);
     run("freed", free_share, shares, before);
     for (int i = 0; i < THREADS; i++) over += shares[i].over;
     printf("%zu boards, %ld positions in which the game is over\n", many, over);
