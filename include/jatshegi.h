@@ -1,5 +1,7 @@
 /*
- * Jatshegi: a chess board in which every answer is proved, for C (C11) and C++.
+ * Jatshegi for C (C11) and C++.
+ *
+ * Chess rules, PGN and a UCI engine: a prover has checked that the core's answers follow from written definitions of the FIDE Laws and the PGN standard.
  *
  *     struct jatshegi_keys keys;
  *     struct jatshegi_board board = JATSHEGI_NO_BOARD;
@@ -15,14 +17,17 @@
  * of moves from the root to it.
  *
  * What a caller owes:
- *   - A board begins as JATSHEGI_NO_BOARD, which is zeros, and after that only these functions write to it. A board that is in use is never copied. Where a board
- *     is `const` here, the call leaves it as it was; it uses it all the same, so the object itself is not const, and the next rule holds of such a call, too.
+ *   - A board begins as JATSHEGI_NO_BOARD, which is zeros, and after that only these functions write to it. A board that is in use is never copied. Its bytes may
+ *     be moved, as `realloc` and a move of C++ do: the old place is then neither used nor freed. The same holds of a `struct jatshegi_stop`.
+ *   - If a parameter is `const struct jatshegi_board *` or `const struct jatshegi_stop *`, the call writes to the object, and leaves it unchanged when it returns.
+ *     So the object is in writable memory: it is never itself `const`, even if it is empty. The rule of one call at a time also holds of such a call.
  *   - The keys are filled once, and stay where they are, unchanged, for as long as there is a board with them. Any number of boards share them.
  *   - One call at a time uses a board. It may go to another thread, where a lock, or a thread's start or end, orders the calls. Boards of different
  *     threads are independent: there is no other state.
- *   - Pointers are aligned as C aligns their types, and not null, but that (NULL, 0) may be a text or a room: it is an empty one, so that a length can be asked for;
- *     and that a null pointer is freed by doing nothing. What is written to overlaps nothing else that the call is given; a text that is read is not changed
- *     meanwhile. Lengths are at most PTRDIFF_MAX bytes.
+ *   - Pointers are aligned as C aligns their types, and not null. (NULL, 0) may stand for an empty text or an empty room, so that a length can be asked for. An
+ *     output overlaps nothing else that the call is given; a text that is read is not changed meanwhile. Lengths are at most PTRDIFF_MAX bytes.
+ *   - C and C++ that include this header may free a null pointer: two macros at its end do nothing then. The library's own functions take no null pointer. Callers
+ *     by a pointer to the function, by dlsym or from another language look for null themselves.
  *   - `malloc`, `realloc` and `free` are those of one allocator; no call comes from a signal handler.
  *
  * Then every input is answered, and nothing aborts. Each function is proved to answer what the Laws of Chess say, and to keep the board as it was wherever
@@ -304,7 +309,7 @@ struct jatshegi_board {
 
 /*
  * A handle of a flag by which one thread has the searches of another abandoned, or nothing: zeros are nothing. Its fields are for the functions below alone.
- * A handle that is in use is never copied, and one call at a time uses it; it may be passed to another thread.
+ * A handle that is in use is never copied, and one call at a time uses it; it may be passed to another thread. It is never `const`, even if it is empty.
  */
 struct jatshegi_stop {
     bool full;
@@ -337,7 +342,7 @@ uint32_t jatshegi_board_new(const struct jatshegi_keys *keys, struct jatshegi_bo
  */
 uint32_t jatshegi_board_copy(const struct jatshegi_board *board, struct jatshegi_board *other);
 
-/* Frees the board, if there is one: then there is none. At a null pointer it does nothing. */
+/* Frees the board, if there is one: then there is none. At a null pointer it does nothing, if it is called by this name in C or C++. */
 void jatshegi_board_free(struct jatshegi_board *board);
 
 /*
@@ -403,7 +408,8 @@ uint32_t jatshegi_board_line(const struct jatshegi_board *board, struct jatshegi
  * Makes a move, and says whether it added a node: `false` where a child of the node at the cursor has the move. OK, EMPTY, NO_MEMORY, ILLEGAL, TOO_LONG,
  * FULL.
  *
- * A program that takes the move back keeps the answer, one for each move that it made, and passes it to jatshegi_board_undo.
+ * A program that takes the move back keeps the answer, one for each move that it made, and passes it to jatshegi_board_undo. A legal move is made also after
+ * the game is over, for example by a fifth repetition: jatshegi_board_outcome says whether the game is over.
  */
 uint32_t jatshegi_board_play(struct jatshegi_board *board, struct jatshegi_move move, bool *added);
 
@@ -516,7 +522,10 @@ uint32_t jatshegi_stop_new(struct jatshegi_stop *stop);
 uint32_t jatshegi_stop_share(const struct jatshegi_stop *stop, struct jatshegi_stop *other);
 uint32_t jatshegi_stop_set(struct jatshegi_stop *stop, bool set);
 
-/* Frees the handle, if there is one, and with its last handle the flag: then there is none. At a null pointer it does nothing. */
+/*
+ * Frees the handle, if there is one, and with its last handle the flag: then there is none. At a null pointer it does nothing, if it is called by this name in
+ * C or C++.
+ */
 void jatshegi_stop_free(struct jatshegi_stop *stop);
 
 /*
@@ -569,6 +578,9 @@ uint32_t jatshegi_engine_time_left(const struct jatshegi_board *board, uint64_t 
  * Tags and result belong to the game beside its moves: jatshegi_board_new begins with none known (tags `?`, result `*`), jatshegi_board_load takes those of the
  * text, and nothing else but the calls below changes them, so a game keeps its players when another position is set. The line `pgn` of
  * jatshegi_board_answer answers as the program does, which knows neither.
+ *
+ * A text of more than 1,048,576 bytes, or with more than 128 variations within one another, is written, but no call reads it: it is PGN_TOO_LARGE or PGN_DEEP.
+ * A program that stores games looks at the length; long comments and tags alone make such a text.
  */
 uint32_t jatshegi_board_pgn(const struct jatshegi_board *board, char *text, size_t room, size_t *length);
 
@@ -587,6 +599,8 @@ uint32_t jatshegi_board_tags(const struct jatshegi_board *board, size_t place, c
 /*
  * Gives the tag of that name the value, whether or not the game has it yet: letters, digits and underscores, and any text on one line. Or takes the tag out, if
  * there is one; each of the six then says that nothing is known, `?`, or `????.??.??`. OK, EMPTY, NO_MEMORY; TAG_NAME, TAG_OWN, TAG_VALUE of the first.
+ *
+ * A value has any length, but a game whose text is longer than 1,048,576 bytes by it can't be read again (jatshegi_board_pgn).
  */
 uint32_t jatshegi_board_set_tag(struct jatshegi_board *board, const char *name, size_t length, const char *value, size_t count);
 uint32_t jatshegi_board_clear_tag(struct jatshegi_board *board, const char *name, size_t length);
@@ -617,7 +631,11 @@ uint32_t jatshegi_board_end(struct jatshegi_board *board);
 uint32_t jatshegi_board_promote(struct jatshegi_board *board);
 uint32_t jatshegi_board_delete(struct jatshegi_board *board);
 
-/* A comment for the node at the cursor; the one that it had is forgotten: a text without words takes it out (PGN 5). OK, EMPTY, NO_MEMORY, BAD_COMMENT. */
+/*
+ * A comment for the node at the cursor; the one that it had is forgotten: a text without words takes it out (PGN 5). OK, EMPTY, NO_MEMORY, BAD_COMMENT.
+ *
+ * It has any length, but a game whose text is longer than 1,048,576 bytes by it can't be read again (jatshegi_board_pgn).
+ */
 uint32_t jatshegi_board_comment(struct jatshegi_board *board, const char *text, size_t length);
 
 /* An annotation number more for the move at the cursor (PGN 8.2.4). OK, EMPTY, NO_MEMORY, AT_ROOT. */
@@ -688,7 +706,7 @@ uint32_t jatshegi_game_next(const char *text, size_t length, bool is_last, size_
 }
 #endif
 
-/* A null pointer is freed by doing nothing. */
+/* A null pointer is freed by doing nothing, here and not in the library. */
 static inline void jatshegi_board_free_any(struct jatshegi_board *board) {
     if (board != NULL) jatshegi_board_free(board);
 }

@@ -1,4 +1,7 @@
-/* What people who write C are used to: a null pointer is freed, (NULL, 0) is an empty text and an empty room, what only asks takes a const board; and how much memory a board takes. */
+/*
+ * What people who write C are used to: a null pointer is freed, (NULL, 0) is an empty text and an empty room, what only asks takes a const board, and a board may be
+ * moved; how much memory a board takes; and what may surprise them: a game too long to be read, a game that goes on after its end.
+ */
 #include <malloc.h>
 #include <stdio.h>
 #include <string.h>
@@ -102,6 +105,55 @@ static void empty_rooms(const struct jatshegi_board *board, struct jatshegi_boar
     CHECK(jatshegi_game_report(NULL, 0, &report, NULL, 0, &count, &used) == JATSHEGI_NO_GAME);
 }
 
+/* The bytes of a board may be moved, as realloc does. */
+static void moved(const struct jatshegi_keys *keys) {
+    static const struct jatshegi_board none = JATSHEGI_NO_BOARD;
+    struct jatshegi_board places[2] = {none, none};
+    size_t count = 0;
+    bool added = false;
+    CHECK(jatshegi_board_new(keys, &places[0]) == JATSHEGI_OK);
+    memcpy(&places[1], &places[0], sizeof places[1]);
+    memset(&places[0], 0x55, sizeof places[0]);
+    CHECK(jatshegi_board_play_text(&places[1], "e4", 2, &added) == JATSHEGI_OK && added);
+    CHECK(jatshegi_board_fen(&places[1], NULL, 0, &count) == JATSHEGI_NO_ROOM && count == 59);
+    jatshegi_board_free(&places[1]);
+}
+
+/* A comment may make a text that is written and can't be read; the board stays. */
+static void too_long(struct jatshegi_board *board) {
+    static char comment[1048577], text[sizeof comment + 200];
+    size_t count = 0, used = 7;
+    memset(comment, 'a', sizeof comment);
+    CHECK(jatshegi_board_comment(board, comment, sizeof comment) == JATSHEGI_OK);
+    CHECK(jatshegi_board_pgn(board, text, sizeof text, &count) == JATSHEGI_OK && count > sizeof comment);
+    CHECK(jatshegi_board_load(board, text, count, &used) == JATSHEGI_PGN_TOO_LARGE && used <= count);
+    CHECK(jatshegi_board_comment_of(board, NULL, 0, &count) == JATSHEGI_NO_ROOM && count == sizeof comment);
+    CHECK(jatshegi_board_comment(board, NULL, 0) == JATSHEGI_OK);
+}
+
+/* A game that is over goes on where a move is legal. */
+static void goes_on(struct jatshegi_board *board) {
+    static const char fen[] = "4k3/8/8/8/8/8/8/4K2N w - - 0 1";
+    uint32_t outcome = JATSHEGI_PLAY;
+    bool added = false;
+    CHECK(jatshegi_board_set(board, fen, sizeof fen - 1) == JATSHEGI_OK);
+    CHECK(jatshegi_board_outcome(board, &outcome) == JATSHEGI_OK && outcome == JATSHEGI_DEAD);
+    CHECK(jatshegi_board_play_text(board, "Ke2", 3, &added) == JATSHEGI_OK && added);
+}
+
+/* A user's takeback is `delete`: `undo` leaves a move with a comment as a variation. */
+static void taken_back(struct jatshegi_board *board) {
+    uint32_t children = 0;
+    bool added = false;
+    CHECK(jatshegi_board_start(board) == JATSHEGI_OK);
+    CHECK(jatshegi_board_play_text(board, "Kd2", 3, &added) == JATSHEGI_OK && added);
+    CHECK(jatshegi_board_comment(board, "[%clk 0:05:00]", 14) == JATSHEGI_OK);
+    CHECK(jatshegi_board_undo(board, added) == JATSHEGI_OK);
+    CHECK(jatshegi_board_children(board, &children) == JATSHEGI_OK && children == 2);
+    CHECK(jatshegi_board_step(board, 1) == JATSHEGI_OK && jatshegi_board_delete(board) == JATSHEGI_OK);
+    CHECK(jatshegi_board_children(board, &children) == JATSHEGI_OK && children == 1);
+}
+
 /* A board takes little memory before a line is answered, or an event comes; and what answers take is given back. */
 static void little_memory(const struct jatshegi_keys *keys) {
     struct jatshegi_board board = JATSHEGI_NO_BOARD;
@@ -134,6 +186,10 @@ int main(int count, char **words) {
     CHECK(jatshegi_board_new(&keys, &board) == JATSHEGI_OK);
     empty_texts(&board);
     empty_rooms(&board, &board);
+    too_long(&board);
+    goes_on(&board);
+    taken_back(&board);
+    moved(&keys);
     jatshegi_board_free(&board);
     printf("%d passed, %d failed\n", passed, failed);
     return failed != 0;
