@@ -276,14 +276,17 @@ class InTheBrowser(unittest.TestCase):
         found = [it for it in self.browser.get_log("browser") if it["level"] == "SEVERE"]
         self.assertEqual(found, [])
 
-    def saved(self):
-        """The file that 'Save PGN' writes."""
-        path = f"{self.folder}/game.pgn"
-        if os.path.exists(path):
-            os.remove(path)
-        self.page.click("save")
-        self.page.until(lambda: os.path.exists(path) and not os.path.exists(f"{path}.crdownload"), "the game is saved")
-        with open(path, "rb") as file:
+    def saved(self, button="save"):
+        """The file that 'Save the game' writes, or another button for a file; `saved_as` is its name."""
+        def names():
+            return [it for it in os.listdir(self.folder) if it.endswith(".pgn")]
+
+        for name in names():
+            os.remove(f"{self.folder}/{name}")
+        self.page.click(button)
+        self.page.until(lambda: names() and not [it for it in os.listdir(self.folder) if it.endswith(".crdownload")], "the game is saved")
+        [self.saved_as] = names()
+        with open(f"{self.folder}/{self.saved_as}", "rb") as file:
             return file.read()
 
     def test_a_game_to_mate_by_drag_by_clicks_and_by_text(self):
@@ -340,8 +343,11 @@ class InTheBrowser(unittest.TestCase):
         page.closes()
         page.paste("1. e4 e5 2. Ke3 *")
         page.until_told("a word that names no legal move, at line 1, column 13, move 2 of White: “Ke3”")
-        page.paste("   ")
-        page.until_told("There is no game in it.")
+        for text in ("   ", "42", "1. ", "1-0", '[White "?"]\n\n*'):
+            page.script("document.getElementById('told').textContent = ''")
+            page.paste(text)
+            page.until_told("There is no game in it.")
+            self.assertEqual((page.moves, page.fen), ("1. e4", before))
         page.type("comment", "a } brace")
         page.until_told("closing brace")
         self.assertEqual(page.moves, "1. e4")
@@ -386,8 +392,21 @@ class InTheBrowser(unittest.TestCase):
                 self.page.at("file").send_keys(file.name)
                 self.page.until(lambda: self.page.moves, "the game is read")
             self.assertEqual(self.saved(), chess("pgn", given=given).stdout)
+            self.assertEqual(self.saved_as, "Café_A-Latin_é.pgn" if given == text else "game.pgn")
             self.page.click("new")
             self.page.until_moves("")
+
+    def test_all_games_are_saved_in_one_file(self):
+        games = [b'[White "A"]\n[Date "2024.??.??"]\n\n1. e4 {first} *', b"1. d4 d5 1/2-1/2", b"{a comment alone} *"]
+        for text in games:
+            self.page.paste(text.decode())
+            self.page.until(lambda: self.page.moves, "the game is read")
+            self.page.click("new")
+            self.page.until_moves("")
+        self.page.play("c4")
+        wanted = chess("pgn", given=b"\n\n".join([*games, b"1. c4 *"])).stdout
+        self.assertEqual(self.saved("saveall").rstrip(), wanted.rstrip())
+        self.assertRegex(self.saved_as, r"^games-\d{4}-\d\d-\d\d\.pgn$")
 
     def test_a_game_with_equal_moves_side_by_side_is_kept(self):
         for text in (b"1. e4 {a} (1. e4 {b} e5) 1... c5 *", b'[White "A"]\n\n{r} 1. d4 (1. d4 $1 (1. c4) 1... d5) (1. d4 {x}) 1... f5 {y} 0-1'):

@@ -17,8 +17,8 @@ setUpModule, tearDownModule = test_web.setUpModule, test_web.tearDownModule
 # All that the module says of the game on the page, once what was asked for is done.
 SEEN = """
 const done = arguments[arguments.length - 1];
-const { game, exported, settled } = window.jatshegi;
-settled().then(exported).then((text) => done([text, game.state.path, game.state.fen, game.draft?.text ?? null, game.history.canUndo(), game.history.canRedo()]), (error) => done(String(error)));
+const { game, exported, settled, canUndo, canRedo } = window.jatshegi;
+settled().then(exported).then((text) => done([text, game.state.path, game.state.fen, game.draft?.text ?? null, canUndo(), canRedo()]), (error) => done(String(error)));
 """
 SQUARES = [f"{file}{rank}" for file in "abcdefgh" for rank in range(1, 9)]
 TAGS = {"tagWhite": "White", "tagBlack": "Black", "tagEvent": "Event"}
@@ -92,10 +92,19 @@ def as_typed(rng, board, move):
 class Model:
     """Beside the page: the board of the library, the tags and the result, and the states so far as texts."""
 
-    def __init__(self, jatshegi, fen=None):
+    # The games that were left by undoing their beginning since the last change, each with the one to which that led and its state then.
+    left = []
+
+    def __init__(self, jatshegi, fen=None, text=None, begun_from=None, is_kept=False):
         self.jatshegi = jatshegi
         self.board, self.tags, self.result, self.draft = jatshegi.Board(), {}, "*", None
-        self.states, self.at, self.is_kept = [], -1, False
+        self.states, self.at, self.is_kept = [], -1, is_kept
+        self.begun_from = begun_from if begun_from is None or begun_from.is_kept else begun_from.begun_from
+        if text:
+            game = jatshegi.pgn.read_game(text.encode())
+            self.board = jatshegi.Board.from_game(game)
+            self.tags = {name: value for name, value in game.headers.items() if name not in ("Result", "FEN", "SetUp")}
+            self.result = game.result
         if fen:
             self.board.line(f"set {fen}")
         self.note()
@@ -114,6 +123,7 @@ class Model:
             return
         self.states[self.at + 1:] = [state]
         self.at += 1
+        self.left.clear()
         self.is_kept = self.is_kept or self.at > 0
 
     def settle(self):
@@ -132,25 +142,28 @@ class Model:
             self.result = result or self.result
         self.note()
 
-    def load(self, text):
-        if not self.settle():
-            return
-        game = self.jatshegi.pgn.read_game(text.encode())
-        self.board = self.jatshegi.Board.from_game(game)
-        self.tags = {name: value for name, value in game.headers.items() if name not in ("Result", "FEN", "SetUp")}
-        self.result = game.result
-        self.note()
+    def can_return(self):
+        return bool(self.left) and self.left[-1][1:] == (self, self.at)
 
     def travel(self, by):
-        if not self.settle() or not 0 <= self.at + by < len(self.states):
-            return
+        """A step of undo or redo: the model of the game that is then on the board."""
+        if not self.settle():
+            return self
+        if by < 0 and self.at == 0 and self.begun_from:
+            self.left.append((self, self.begun_from, self.begun_from.at))
+            return self.begun_from
+        if by > 0 and self.can_return():
+            return self.left.pop()[0]
+        if not 0 <= self.at + by < len(self.states):
+            return self
         self.at += by
         _, path, _, pgn, tags, self.result = self.states[self.at]
         self.board, self.tags = self.jatshegi.Board.from_game(self.jatshegi.pgn.read_game(pgn.encode())), dict(tags)
         self.board.line("start" if path == "-" else f"goto {path}")
+        return self
 
     def seen(self):
-        return [*self.states[self.at][:3], self.draft, self.at > 0, self.at + 1 < len(self.states)]
+        return [*self.states[self.at][:3], self.draft, self.at > 0 or self.begun_from is not None, self.at + 1 < len(self.states) or self.can_return()]
 
 
 GAMES = [
@@ -179,10 +192,18 @@ class Keeping(Browsing):
         elif what == "no address":
             page.script("location.hash = arguments[0]", f"fen=8/8/8/8/8/8/8/8_w_-_-_0_{rng.randrange(1, 9999)}")
             page.until_told("The address names no position")
-        elif what in ("another", "listed", "address", "open"):
-            at, fen = rng.randrange(len(models)), None
-            if what == "another":
-                page.script("document.getElementById('another').click()")
+        elif what in ("another", "new", "fen", "edit", "paste", "listed", "address", "open"):
+            at, fen, text = rng.randrange(len(models)), None, None
+            if what in ("another", "new"):
+                page.script("document.getElementById(arguments[0]).click()", what)
+            elif what == "fen":
+                fen = rng.choice(["r3k2r/8/8/8/8/8/8/R3K2R w KQkq - 3 7", "8/8/8/8/8/8/8/8 w - - 0 1", "4k3/8/8/3pP3/8/8/8/4K3 w - d6 0 2"])
+                page.set_fen_now(fen)
+            elif what == "edit":
+                fen = self.edit(rng)
+            elif what == "paste":
+                text = rng.choice(GAMES)
+                page.paste(text)
             elif what == "listed":
                 fens = [f"r3k2r/8/8/8/8/8/8/R3K2R b KQkq - {rng.randrange(50)} 7", "4k3/8/8/3pP3/8/8/8/4K3 w - d6 0 2"]
                 fen = rng.choice(fens)
@@ -194,13 +215,16 @@ class Keeping(Browsing):
                 page.script("location.hash = arguments[0]", f"fen={fen.replace(' ', '_')}")
             else:
                 page.script("document.querySelectorAll('#own .open')[arguments[0]].click()", at)
-            if (what == "open" and models[at] is model) or not model.settle():
-                return what, model
-            other = models[at] if what == "open" else Model(test_web.library(), fen)
-            if not model.is_kept:
-                models.remove(model)
-            if what != "open":
-                models.append(other)
+            is_refused = fen is not None and test_web.library().Board().line(f"set {fen}") != "ok"
+            if (what == "open" and models[at] is model) or not model.settle() or is_refused:
+                other = model
+            else:
+                other = models[at] if what == "open" else Model(test_web.library(), fen, text, model, what in ("fen", "edit", "paste"))
+            if what == "edit":
+                page.until(lambda: self.seen() == other.seen(), f"{fen} is set, or refused: {other.seen()}, not {self.seen()}")
+                # (where it is refused the box stays)
+                page.script("document.getElementById('fenbox').close()")
+            self.put_in(models, model, other)
             return what, other
         elif what == "escape":
             page.at("comment").send_keys("\ue00c")
@@ -214,11 +238,12 @@ class Keeping(Browsing):
             model.do(f"play {board.san(move) if move else 'Kh8'}")
         elif what in ("undo", "redo"):
             page.script("document.getElementById(arguments[0]).click()", what)
-            model.travel(-1 if what == "undo" else 1)
+            return what, self.put_in(models, model, model.travel(-1 if what == "undo" else 1))
         elif what.startswith("ctrl"):
             self.press(keys["ctrl"], *([keys["shift"]] if "shift" in what else []), what[-1])
-            model.travel(-1 if what == "ctrl-z" else 1)
+            return what, self.put_in(models, model, model.travel(-1 if what == "ctrl-z" else 1))
         elif what == "reload":
+            model.left.clear()
             # (a position with which nothing was done is kept by its address alone)
             place = "" if model.is_kept or board.fen() == test_web.library().Board().fen() else f"#fen={board.fen().replace(' ', '_')}"
             page.until(lambda: model.is_kept or page.script("return location.hash") == place, f"the address has {place}")
@@ -236,27 +261,18 @@ class Keeping(Browsing):
             result = rng.choice(["*", "1-0", "0-1", "1/2-1/2"])
             page.choose("tagResult", result)
             self.retag(model, None, result)
-        elif what == "new":
-            page.script("document.getElementById('new').click()")
-            model.do("new", {}, "*")
-        elif what == "fen":
-            fen = rng.choice(["r3k2r/8/8/8/8/8/8/R3K2R w KQkq - 3 7", "8/8/8/8/8/8/8/8 w - - 0 1", "4k3/8/8/3pP3/8/8/8/4K3 w - d6 0 2"])
-            page.set_fen_now(fen)
-            model.do(f"set {fen}", {}, "*")
-        elif what == "edit":
-            fen = self.edit(rng)
-            model.do(f"set {fen}", {}, "*")
-            page.until(lambda: self.seen() == model.seen(), f"{fen} is set, or refused: {model.seen()}, not {self.seen()}")
-            # (where it is refused the box stays)
-            page.script("document.getElementById('fenbox').close()")
-        elif what == "paste":
-            text = rng.choice(GAMES)
-            page.paste(text)
-            model.load(text)
         else:
             page.script("document.getElementById(arguments[0]).click()", what)
             model.do("step 0" if what == "forward" else what)
         return what, model
+
+    def put_in(self, models, model, other):
+        """Another game is on the board: the list has that, and has the one that was there if something was done with it."""
+        if other is not model and not model.is_kept:
+            models.remove(model)
+        if other not in models:
+            models.append(other)
+        return other
 
     def edit(self, rng):
         """Sets a position up in the board editor, which may be none, and returns the FEN that it is to have."""
@@ -287,21 +303,22 @@ class Keeping(Browsing):
     def test_random_doings_undone_and_reloaded_lose_nothing(self):
         rng, model, done = random.Random(65), Model(test_web.library()), []
         models = [model]
+        model.left.clear()
         for _ in range(self.RANDOM_DOINGS):
             what, model = self.doing(rng, models, model)
             done.append(what)
             # (what is pasted comes when it has been read, and the list of games when they are kept)
             self.page.until(lambda: self.page.script("return document.querySelectorAll('#own .open').length") == len(models), f"after {done[-8:]}: {len(models)} games")
             self.page.until(lambda: self.seen() == model.seen(), f"after {done[-8:]}: {model.seen()}, not {self.seen()}")
-        while model.at > 0:
+        while model.seen()[4]:
             model.draft = None
             self.page.at("comment").send_keys("\ue00c")
             self.page.script("document.getElementById('undo').click()")
-            model.travel(-1)
+            model = model.travel(-1)
             self.assertEqual(self.seen(), model.seen())
-        while model.at + 1 < len(model.states):
+        while model.seen()[5]:
             self.page.script("document.getElementById('redo').click()")
-            model.travel(1)
+            model = model.travel(1)
             self.assertEqual(self.seen(), model.seen())
 
     def test_each_change_is_undone_and_done_again(self):
@@ -312,7 +329,7 @@ class Keeping(Browsing):
         changes = [
             lambda: page.type("comment", "a word"), lambda: page.choose("nag", "3"), lambda: page.script("document.getElementById('promote').click()"),
             lambda: page.script("document.getElementById('delete').click()"), lambda: page.set_fen_now("4k3/8/8/8/8/8/8/R3K3 w - - 0 1"),
-            lambda: page.script("document.getElementById('new').click()"), lambda: page.paste(GAMES[0]), lambda: page.choose("tagResult", "1-0"),
+            lambda: page.paste(GAMES[0]), lambda: page.choose("tagResult", "1-0"), lambda: page.script("document.getElementById('new').click()"),
         ]
         texts = [self.seen()[:3]]
         for change in changes:
@@ -325,6 +342,82 @@ class Keeping(Browsing):
         for wanted in texts[1:]:
             self.press("\ue009", "\ue008", "z")
             self.assertEqual(self.seen()[:3], wanted)
+
+    def test_what_begins_a_game_leaves_the_one_that_is_there(self):
+        page = self.page
+        ways = {
+            "new": lambda: page.script("document.getElementById('new').click()"), "a position": lambda: page.set_fen_now("4k3/8/8/8/8/8/8/R3K3 w - - 0 1"),
+            "a paste": lambda: page.paste(GAMES[2]), "what is dropped": lambda: page.script("""
+                const given = new DataTransfer();
+                given.setData('text', arguments[0]);
+                document.body.dispatchEvent(new DragEvent('drop', { dataTransfer: given, bubbles: true, cancelable: true }));
+            """, GAMES[2]),
+        }
+        for name, begin in ways.items():
+            page.open()
+            page.play("e4", "e5", "Nf3")
+            had = self.text()
+            begin()
+            page.until(lambda: self.text() != had, f"{name} begins a game")
+            page.script("document.getElementById('start').click()")
+            page.type("san", "Ra8" if name == "a position" else "d4")
+            page.until(lambda: "Ra8" in page.moves or "d4" in page.moves, "a move is made there")
+            other = self.text()
+            while self.text() != had:
+                page.script("document.getElementById('undo').click()")
+            page.script("document.getElementById('undo').click()")
+            page.play("a3")
+            self.reload()
+            found = set()
+            for number in range(2):
+                page.script("document.querySelectorAll('#own .open')[arguments[0]].click()", number)
+                found.update([self.text()])
+                while self.seen()[5]:
+                    page.script("document.getElementById('redo').click()")
+                found.add(self.text())
+            self.assertIn(other, found, name)
+            self.assertTrue([it for it in found if "2. a3" in it], name)
+
+    def test_what_can_not_be_written_is_said_and_not_lost(self):
+        page = self.page
+        page.play("e4")
+        self.until_kept()
+        page.script("""
+            const own = IDBObjectStore.prototype.put;
+            window.putsAgain = () => { IDBObjectStore.prototype.put = own; };
+            IDBObjectStore.prototype.put = () => { throw new DOMException('no room', 'QuotaExceededError'); };
+        """)
+        page.play("e5")
+        page.until(lambda: "is not kept in this browser" in page.text("unkept"), "it is said")
+        asks = "const event = new Event('beforeunload', { cancelable: true }); dispatchEvent(event); return event.defaultPrevented"
+        shown = "const it = document.getElementById('unkept'); const r = it.getBoundingClientRect(); return it.checkVisibility() && r.top >= 0 && r.bottom <= innerHeight && r.height > 20"
+        self.assertEqual((page.script(asks), page.script(shown)), (True, True))
+        had = self.text()
+        page.script("document.getElementById('new').click()")
+        page.until_moves("")
+        page.play("d4")
+        page.script("document.getElementById('undo').click()")
+        page.until_moves("")
+        page.script("document.getElementById('undo').click()")
+        self.until_text(had)
+        page.script("putsAgain()")
+        page.play("Nf3")
+        self.until_kept()
+        self.assertEqual((page.text("unkept"), page.script(asks), page.script(shown)), ("", False, False))
+        had = self.text()
+        self.reload()
+        self.assertEqual(self.text(), had)
+        self.assertEqual(page.script("return document.querySelectorAll('#own .open').length"), 2)
+
+    def test_the_browser_is_asked_to_keep_what_was_made(self):
+        page = self.page
+        page.script("window.asked = 0; navigator.storage.persisted = async () => false; navigator.storage.persist = async () => { window.asked++; return true; }")
+        page.script("document.getElementById('new').click()")
+        page.until_moves("")
+        self.assertEqual(page.script("return window.asked"), 0)
+        page.play("e4", "e5")
+        self.until_kept()
+        self.assertEqual(page.script("return window.asked"), 1)
 
     def test_a_game_that_an_earlier_page_kept_is_opened(self):
         """It kept the tags and the result beside what the board wrote of the moves."""

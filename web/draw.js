@@ -1,6 +1,7 @@
 // What the page shows of the game: the status with its articles, the moves, the comment, and the names.
 import { game, page, retag, tag } from './game.js';
 import { shown } from './jatshegi/src/bytes.js';
+import { canRedo, canUndo } from './mine.js';
 import { nodesOn, pathOf, rows, typed } from './pgn.js';
 import { CLAIMS, CLAIMS_WITH, MARKS, RESULTS, ROSTER, STATUS } from './words.js';
 
@@ -226,7 +227,7 @@ export const drawMoves = () => {
   // (a control that can do nothing keeps the focus)
   const isInside = game.state.path !== '-';
   const next = game.state.pgn.startsWith('refused') || row?.children.length;
-  const can = { promote: isInside, delete: isInside, back: isInside, start: isInside, forward: next, end: next, undo: game.history.canUndo() || game.draft, redo: game.history.canRedo() };
+  const can = { promote: isInside, delete: isInside, back: isInside, start: isInside, forward: next, end: next, undo: canUndo() || game.draft, redo: canRedo() };
   for (const [id, is] of Object.entries(can)) by(id).setAttribute('aria-disabled', String(!is));
 };
 

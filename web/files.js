@@ -1,8 +1,8 @@
 // Games and positions that are read from a text or a file, their list, and a game written back into its file's place.
 import { ask } from './ask.js';
 import { areMostPositions, position } from './epd.js';
-import { begin, doing, exported, game, inTurn, isSettled, page, taken } from './game.js';
-import { another, isAsLoaded, isFresh, noteLoaded } from './mine.js';
+import { doing, exported, game, inTurn, isSettled, page, taken } from './game.js';
+import { another, isAsLoaded, noteLoaded } from './mine.js';
 import { fromBytes, shown, toBytes } from './jatshegi/src/bytes.js';
 import { hasStore, newFileId, readFile, writeFile } from './store.js';
 import { faultWords, refusal } from './words.js';
@@ -43,7 +43,7 @@ const originOf = (it) => (collection.file ? { file: collection.file.id, number: 
 const openListed = (it) => doing(async () => {
   const { bytes } = collection;
   const origin = originOf(it);
-  if (!await isSettled() || !await taken(bytes.slice(it.at, it.at + it.used), { isBeside: !isFresh() && !isAsLoaded(), origin })) return;
+  if (!await isSettled() || !await taken(bytes.slice(it.at, it.at + it.used), { isBeside: !isAsLoaded(), origin })) return;
   noteLoaded();
 });
 
@@ -89,11 +89,11 @@ const listed = (into, found, labelled) => {
   }
 };
 
-// Reads a text of positions: one comes on the board, in the place of the game that is there; of several there is a list, and the board stays.
+// Reads a text of positions: one comes on the board; of several there is a list, and the board stays.
 const readPositions = async (bytes) => {
   const rows = fromBytes(bytes).split('\n').filter((it) => it.trim());
   const [{ fen, said }] = rows.map(position);
-  if (rows.length === 1 && (!await begin(`set ${fen}`) || !said.length)) return;
+  if (rows.length === 1 && (!await another(`set ${fen}`, calledOf(said)) || !said.length)) return;
   const mine = collected({ bytes, arePositions: true });
   collection = mine;
   const add = (found) => {
@@ -107,8 +107,8 @@ const readPositions = async (bytes) => {
 };
 
 /**
- * Reads a text that was given when so much was done: a FEN, a game, or many. The first game comes on the board, in the place of the one that is there, or, of a file,
- * beside it; but where something was done since, the board stays, and it is in the list.
+ * Reads a text that was given when so much was done: a FEN, a game, or many. The first game comes on the board, beside the one that is there; but where something was
+ * done since, the board stays, and it is in the list.
  */
 export const read = async (bytes, { before = game.acts, file = null } = {}) => {
   if (areMostPositions(fromBytes(bytes.subarray(0, 65536)))) {
@@ -122,7 +122,7 @@ export const read = async (bytes, { before = game.acts, file = null } = {}) => {
   // (`before` is null where none is to come on the board)
   const take = (it) => inTurn(async () => {
     if (game.acts !== before || collection !== mine || !await isSettled()) return false;
-    const isTaken = await taken(bytes.slice(it.at, it.at + it.used), { isBeside: Boolean(file) && !isFresh() && !isAsLoaded(), origin: originOf(it) });
+    const isTaken = await taken(bytes.slice(it.at, it.at + it.used), { isBeside: !file || !isAsLoaded(), origin: originOf(it) });
     if (isTaken && file) noteLoaded();
     return isTaken;
   });
@@ -138,7 +138,7 @@ export const read = async (bytes, { before = game.acts, file = null } = {}) => {
     if (first) mine.first ??= take(first).then((is) => { mine.isLoaded = is; });
     show();
   };
-  add((await ask('games', { bytes }, add)).found);
+  add((await ask('games', { bytes, isPasted: !file }, add)).found);
   await mine.first;
   if (collection !== mine) return;
   // (a text without a game leaves the list that was there)

@@ -11,8 +11,11 @@ import { faultText, refusal } from './words.js';
  */
 export const game = { state: null, origin: null, history: new History(), draft: null, acts: 0, isMoved: false };
 
-/** What the page does when the game is another, when it has been noted, when one begins beside it, and when something is to be said. */
-export const page = { draw() {}, drawTags() {}, noted() {}, beside() {}, told() {} };
+/**
+ * What the page does when the game is another, when it has been noted, which is a new state or none, and when something is to be said; and with the games that it keeps:
+ * whether another can begin beside this one, that one does, and a step of undo or redo that leads to another game, if it does.
+ */
+export const page = { draw() {}, drawTags() {}, noted() {}, told() {}, keepsGames: () => false, beside() {}, beyond: () => false };
 
 // What the board is asked to do: one thing after another, each once the one before is drawn.
 let turn = Promise.resolve();
@@ -56,8 +59,7 @@ const note = () => {
     page.told(`Since the last move or so nothing can be undone or kept: ${refusal(state.pgn)}`);
     return;
   }
-  game.history.note({ origin, pgn: state.pgn, path: state.path });
-  page.noted();
+  page.noted(game.history.note({ origin, pgn: state.pgn, path: state.path }));
 };
 
 /** Has the module restore a state. Where it can't, all is as before. */
@@ -75,6 +77,7 @@ const restored = async ({ origin, pgn, path }) => {
 
 const travel = (by) => doing(async () => {
   if (game.draft && !await answered([])) return false;
+  if (await page.beyond(by)) return true;
   const { history } = game;
   const wanted = history.states[history.at + by];
   if (!wanted || !await restored(wanted)) return false;
@@ -121,7 +124,7 @@ const settle = async (all, { bad, state }) => {
   if (!game.draft || game.draft.path === state.path) return { bad, state };
   const late = game.draft;
   if (all.includes('promote')) game.draft = { ...late, path: state.path };
-  else if (all.some((it) => it === 'delete' || it === 'new' || it.startsWith('set '))) leaveDraft();
+  else if (all.includes('delete')) leaveDraft();
   else {
     const more = await say([to(late.path), commentLine(late), to(state.path)]);
     if (game.draft === late && !more.bad) game.draft = null;
@@ -143,15 +146,14 @@ const setDraft = async () => {
   return bad;
 };
 
-/** Has the board answer lines, or begin a game by one, and draws what it then is. Only in turn. */
-const answered = async (all, job = 'lines') => {
+/** Has the board answer lines, and draws what it then is. Only in turn. */
+const answered = async (all) => {
   let bad = await setDraft();
   if (!bad) {
-    const found = await settle(all, await say(all, job));
+    const found = await settle(all, await say(all));
     game.state = found.state;
     bad = found.bad;
-    if (!bad && job === 'begin') game.origin = null;
-    game.isMoved = !bad && all.some((it) => /^(play|new|set)\b/.test(it));
+    game.isMoved = !bad && all.some((it) => it.startsWith('play '));
   }
   page.told(bad ? refusal(bad) : '');
   note();
@@ -174,16 +176,37 @@ export const playTyped = (text) => doing(async () => {
 /** As `lines`, for one line, in turn. */
 export const stepped = (line) => answered([line]);
 
-/** Begins another game by `new` or `set FEN`, in the place of the one that is there. */
-export const begin = (line) => doing(async () => {
-  if (!await answered([line], 'begin')) return false;
+// Another game is on the board, as it began. It is beside the one that was there, which is kept with the comment that is being typed; `more` is what the page knows of
+// it. Where no game is kept it `isBeside` none and takes the place of the one that was there, and undo brings that back.
+const puts = (state, { origin = null, isMoved = false, isBeside = true, more = {} }) => {
+  if (isBeside && page.keepsGames()) {
+    if (game.draft) page.noted();
+    const history = new History();
+    page.beside(history, more);
+    Object.assign(game, { history, draft: null });
+  } else leaveDraft();
+  Object.assign(game, { state, origin, isMoved });
+  page.told('');
+  note();
   page.drawTags();
+  page.draw();
+};
+
+/** Begins another game by `new` or `set FEN`. Refused, all is as it was. */
+export const begin = (line, more = {}) => doing(async () => {
+  if (!await isSettled()) return false;
+  const { bad, state } = await say([line], 'begin');
+  if (bad) {
+    page.told(refusal(bad));
+    return false;
+  }
+  puts(state, { isMoved: true, more: { isEmpty: line === 'new', ...more } });
   return true;
 });
 
-/** The board as it begins by `new` or `set FEN`, with no state before. Only in turn, and with no comment that is being typed. */
-export const beginAlone = async (line = 'new') => {
-  const { bad, state } = await say([line], 'begin');
+/** The board as a game begins, with no state before. Only in turn, and with no comment that is being typed. */
+export const beginAlone = async () => {
+  const { bad, state } = await say(['new'], 'begin');
   if (bad) {
     page.told(refusal(bad));
     return false;
@@ -226,27 +249,25 @@ export const unmark = () => doing(async () => {
 });
 
 /**
- * The text's first game comes on the board, at the node with that path: in the place of the one that is there, or beside it, with no state before. `origin` is the file
- * and the number of the game there. Only in turn, once `isSettled`.
+ * The text's first game comes on the board, at the node with that path: beside the one that is there, or if it `isBeside` none in its place. `origin` is the file and
+ * the number of the game there. Only in turn, once `isSettled`.
  */
-export const taken = async (bytes, { path = '-', isBeside = false, origin = null } = {}) => {
+export const taken = async (bytes, { path = '-', isBeside = true, origin = null } = {}) => {
   const found = await asked('load', { bytes, path });
   if (found.status !== 0) {
     page.told(found.status === 16 ? 'There is no game in it.' : `No game: ${faultText(found.status, found.where)}.`);
     return false;
   }
-  leaveDraft();
-  if (isBeside) {
-    game.history = new History();
-    page.beside();
-  }
-  Object.assign(game, { state: found.state, origin });
-  page.told('');
-  note();
-  page.drawTags();
-  page.draw();
+  puts(found.state, { origin, isBeside, more: { isEmpty: false } });
   return true;
 };
 
 /** What a tag says, for showing; empty where nothing is known. */
 export const tag = (name) => shown(game.state.tags[name].replace(/^(\?|\?{4}\.\?\?\.\?\?)$/, ''));
+
+/** The name of a file for the game: its players and its date, as far as they are known. */
+export const fileName = () => {
+  const known = tag('White') || tag('Black') ? ['White', 'Black', 'Date'] : ['Event', 'Date'];
+  const words = known.map((name) => tag(name).replace(/[^\p{L}\p{M}\p{N}.]+/gu, '_').replace(/^[_.]+|[_.]+$/g, '')).filter(Boolean);
+  return `${words.join('-').slice(0, 100) || 'game'}.pgn`;
+};

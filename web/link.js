@@ -1,6 +1,6 @@
 // A link that holds the game: its export form, deflated, after the sign #. And an address that names a position, by ?fen= or #fen=.
 import { ask } from './ask.js';
-import { begin, exported, game, inTurn, isSettled, page, taken } from './game.js';
+import { exported, game, inTurn, isSettled, page, taken } from './game.js';
 import { fromBytes, toBytes } from './jatshegi/src/bytes.js';
 import { another, isFresh, isPosition, keepLinkOf } from './mine.js';
 import { typed } from './pgn.js';
@@ -80,7 +80,7 @@ export const faultOf = async (link) => {
 const openPosition = async (link) => {
   const fault = await faultOf(link);
   if (fault) page.told(fault);
-  return !fault && (isEmbedded() ? begin(`set ${link.fen}`) : another(`set ${link.fen}`));
+  return !fault && another(`set ${link.fen}`);
 };
 
 const textOf = ({ held, pgn }) => (held ? through(toBytes(atob(held.replaceAll('-', '+').replaceAll('_', '/'))), new DecompressionStream('deflate-raw')) : toBytes(typed(pgn)));
@@ -88,7 +88,7 @@ const textOf = ({ held, pgn }) => (held ? through(toBytes(atob(held.replaceAll('
 const openGame = (link) => inTurn(async () => {
   try {
     const bytes = await textOf(link);
-    return await isSettled() && await taken(bytes, { path: link.path, isBeside: !isEmbedded() && !isFresh() });
+    return await isSettled() && await taken(bytes, { path: link.path, isBeside: !isEmbedded() });
   } catch {
     page.told('The link doesn\u2019t hold a game.');
     return false;

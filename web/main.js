@@ -6,11 +6,11 @@ import { dialogs, openDialog } from './dialogs.js';
 import { drawMoves, drawPlayers, drawStatus, drawTags, pathAt, saidHere, showComment } from './draw.js';
 import { editing } from './editor.js';
 import { choose, download, listAgain, read, readWhole, saveBack, showCollection } from './files.js';
-import { begin, exported, game, isSettled, lines, page, playTyped, redo, settled, stepped, doing, undo, unmark } from './game.js';
+import { begin, exported, fileName, game, isSettled, lines, page, playTyped, redo, settled, stepped, doing, undo, unmark } from './game.js';
 import { keepOffline } from './kept.js';
 import { faultOf, isEmbedded, keepLink, linkNow, linked, openLink } from './link.js';
 import { shown, toBytes } from './jatshegi/src/bytes.js';
-import { beside, keep, openKept, start } from './mine.js';
+import { allTexts, beside, beyond, canRedo, canUndo, keep, keepsGames, noteChange, openKept, start } from './mine.js';
 import { drawOwn, ownCommands } from './own.js';
 import { typed } from './pgn.js';
 import { isStill, settings } from './settings.js';
@@ -54,8 +54,11 @@ page.draw = () => {
   keep(false);
 };
 page.drawTags = drawTags;
-page.noted = () => keep();
-page.beside = () => beside(false);
+page.noted = (isNew = false) => {
+  if (isNew) noteChange();
+  keep();
+};
+Object.assign(page, { keepsGames, beside, beyond });
 
 // ---- What a person does.
 
@@ -187,7 +190,8 @@ const games = () => {
     document.documentElement.dataset.given = link;
     await copy(location.href.replace(/#.*/, '') + link, 'The link');
   });
-  by('save').onclick = out(async () => download(toBytes(exported()), 'game.pgn'));
+  by('save').onclick = out(async () => download(toBytes(exported()), fileName()));
+  by('saveall').onclick = out(async () => download(toBytes(await allTexts()), `games-${new Date().toISOString().slice(0, 10)}.pgn`));
   by('saveback').onclick = out(saveBack);
   by('find').oninput = showCollection;
 };
@@ -309,6 +313,6 @@ const main = async () => {
 };
 
 // For who looks on, from the console or a test.
-globalThis.jatshegi = { game, exported: async () => shown(exported()), settled, pathAt };
+globalThis.jatshegi = { game, exported: async () => shown(exported()), settled, pathAt, canUndo, canRedo };
 
 main().catch((error) => lacks(`The board could not be begun: ${error.message}. Chrome and Edge from 97 on, Firefox from 114 on and Safari from 15.4 on have what it needs.`));

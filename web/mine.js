@@ -1,6 +1,6 @@
 // The games that are kept in this browser: several at once, each with its name and the states that it has been in.
 import { ask } from './ask.js';
-import { game, beginAlone, doing, inTurn, isSettled, page, shownAgain, tag } from './game.js';
+import { begin, exported, game, beginAlone, doing, inTurn, isSettled, page, shownAgain, tag } from './game.js';
 import { History } from './history.js';
 import { allGames, changeGame, dropFiles, dropGame, hasStore, openStore, readGame, writeGame } from './store.js';
 
@@ -11,16 +11,17 @@ let show = () => {};
 
 // ---- Which game a window had on its board is kept with the window.
 
-const remember = (id) => {
+const remember = ({ id, from = '' }) => {
   try {
     sessionStorage.setItem('game', id);
+    sessionStorage.setItem('from', from);
   } catch {
     // (a window that may keep nothing)
   }
 };
-const remembered = () => {
+const remembered = (name) => {
   try {
-    return sessionStorage.getItem('game');
+    return sessionStorage.getItem(name);
   } catch {
     return null;
   }
@@ -28,11 +29,13 @@ const remembered = () => {
 
 const newId = () => `${Date.now().toString(36)}-${Math.random().toString(36).slice(2, 10)}`;
 
-// A game that isn't in the store yet; `kept` has the `mark` with which each of its states is there.
-const fresh = () => {
-  const serial = Math.max(mine.here?.record.serial ?? 0, ...mine.records.map((it) => it.serial)) + 1;
-  const record = { id: newId(), serial, name: '', players: '', version: 0, made: Date.now(), removed: 0, link: '' };
-  return { record, history: game.history, draft: null, kept: new WeakMap(), isDirty: false, saving: null, isEmpty: true };
+// A game that isn't in the store yet; `kept` has the `mark` with which each of its states is there. The game `from` which it was begun is the one on the board, or if
+// nothing has been done with that the one before it.
+const fresh = (history, { isEmpty = true, isPosition = false, called = '', from = mine.here?.record.from ?? '' }) => {
+  const done = mine.here && !isFresh() ? mine.here.record : { id: from, serial: 0 };
+  const serial = Math.max(done.serial, ...mine.records.map((it) => it.serial)) + 1;
+  const record = { id: newId(), serial, name: '', called, players: '', version: 0, made: Date.now(), removed: 0, link: '', from: done.id };
+  return { record, history, draft: null, kept: new WeakMap(), isDirty: false, saving: null, isEmpty, isPosition };
 };
 
 /** What a game is called: by the name that was given to it, else by its players, by that of the position that it began with, or by its number. */
@@ -53,10 +56,20 @@ export const noteLoaded = () => {
 
 // ---- Writing.
 
-let unkept = 0;
+// The games that are being written, and those of which the last change could not be.
+const writing = new Set();
+const unwritten = new Set();
 const showKept = () => {
-  document.documentElement.dataset.kept = mine.trouble ? 'never' : unkept || mine.failed ? 'no' : 'yes';
+  document.documentElement.dataset.kept = mine.trouble ? 'never' : writing.size || unwritten.size ? 'no' : 'yes';
   show();
+};
+
+// Asks the browser, once something is to be kept, that it clears that only if a person wants it. Some browsers ask the person.
+let isAsked = false;
+const askToStay = async () => {
+  if (isAsked || !navigator.storage?.persist) return;
+  isAsked = true;
+  if (!await navigator.storage.persisted()) await navigator.storage.persist();
 };
 
 const players = () => {
@@ -92,25 +105,27 @@ const written = async (it, { states, record, first, last }) => {
   it.record = { ...it.record, id: newId(), version: 0, name: `${nameOf(it.record)} (in another window)` };
   it.kept = new WeakMap();
   it.isDirty = true;
-  if (it === mine.here) remember(it.record.id);
+  if (it === mine.here) remember(it.record);
 };
 
 const save = async (it) => {
-  unkept++;
+  writing.add(it);
   showKept();
   try {
     while (it.isDirty) {
       it.isDirty = false;
       await written(it, snapshot(it));
-      mine.failed = '';
     }
     it.isMade = false;
+    unwritten.delete(it);
+    if (!unwritten.size) mine.failed = '';
   } catch (error) {
     it.isDirty = true;
-    mine.failed = `The last change could not be kept in the browser: ${error.message}`;
+    unwritten.add(it);
+    mine.failed = `The last change of ${nameOf(it.record)} is not kept in this browser: ${error.message}. Save the game as a file (PGN) before you leave the page.`;
   } finally {
     it.saving = null;
-    unkept--;
+    writing.delete(it);
     showKept();
   }
 };
@@ -118,16 +133,21 @@ const save = async (it) => {
 /** Keeps the game on the board as it is now; `isMade` is whether a person did something with it, so that the page isn't left before it is kept. */
 export const keep = (isMade = true) => {
   const it = mine.here;
-  if (!it || mine.trouble) return;
+  if (!it) return;
   if (isFresh()) {
     show();
     return;
   }
+  it.isMade ||= isMade;
+  if (mine.trouble) return;
   Object.assign(it, { draft: game.draft, players: players() });
   it.isDirty = true;
-  it.isMade ||= isMade;
-  it.saving ??= save(it);
+  if (isMade) askToStay().catch(() => {});
+  for (const other of new Set([it, ...unwritten])) other.saving ??= save(other);
 };
+
+// Whether something that a person made is lost if the page is left now.
+const isAtRisk = () => [...writing, ...unwritten].some((it) => it.isMade) || Boolean(mine.trouble && mine.here.isMade);
 
 export const keepLinkOf = (link) => {
   if (!mine.here || mine.here.record.link === link) return;
@@ -139,12 +159,15 @@ export const keepLinkOf = (link) => {
 
 const put = (it) => {
   mine.here = it;
-  remember(it.record.id);
+  remember(it.record);
   showKept();
 };
 
-/** The game that is on the board is one beside those that are kept: an empty one, or one that was read. */
-export const beside = (isEmpty = true) => put({ ...fresh(), isEmpty });
+/** Whether a game that something was done with stays when another is put on the board. */
+export const keepsGames = () => hasStore() && !mine.trouble;
+
+/** The game on the board is one beside those that are kept: an empty one, one that was read, or a position, which is `called` so. It is kept once something is done with it. */
+export const beside = (history = game.history, more = {}) => put(fresh(history, more));
 
 /** Whether the game on the board is a position that was opened, with which nothing has been done. */
 export const isPosition = () => isFresh() && mine.here.isPosition === true;
@@ -157,7 +180,10 @@ const asNow = async ({ game: _, number, tags, result, ...state }) => {
 };
 
 const opened = async (id) => {
-  await mine.here?.saving;
+  await Promise.all([...writing].map((it) => it.saving));
+  // (what could not be written is here alone)
+  const held = [...unwritten].find(({ record }) => record.id === id);
+  if (held) return shownAgain(held.history, held.draft, () => put(held));
   const { record, states } = await readGame(id);
   const at = states.findIndex(({ number }) => number === record?.at);
   if (at < 0) {
@@ -175,24 +201,66 @@ const opened = async (id) => {
   return shownAgain(history, draft, () => put({ record, history, draft, kept, isDirty: false, saving: null }));
 };
 
+/** The records of the games that are kept, with those that only this page has. */
+export const recordsNow = () => [...new Map([...mine.records, ...[...unwritten].map(({ record }) => record)].map((it) => [it.id, it])).values()];
+
+// The text of a kept game as it was left.
+const textOf = async ({ id }) => {
+  if (id === mine.here.record.id) return exported();
+  const held = [...unwritten].find(({ record }) => record.id === id);
+  if (held) return held.history.here.pgn;
+  const { record, states } = await readGame(id);
+  return (await asNow(states.find(({ number }) => number === record.at))).pgn;
+};
+
+/** All games that aren't put away, one after another, as a text of PGN. */
+export const allTexts = async () => {
+  await Promise.all([...writing].map((it) => it.saving));
+  const others = recordsNow().filter((it) => !it.removed && it.id !== mine.here.record.id);
+  const all = isFresh() ? others : [...others, mine.here.record];
+  const texts = await Promise.all(all.sort((a, b) => a.serial - b.serial || a.made - b.made).map(textOf));
+  return texts.map((it) => `${it.trimEnd()}\n`).join('\n');
+};
+
 /** Puts a kept game on the board, as it was left. */
 export const openGame = (id) => doing(async () => {
   if (id === mine.here.record.id) return true;
   return await isSettled() && opened(id);
 });
 
-/** Begins another game beside the one that is there, by `new` or `set FEN`; `called` is what its position is called. It is kept once something is done with it. */
-export const another = (line = 'new', called = '') => doing(async () => {
-  if (!await isSettled() || !await beginAlone(line)) return false;
-  beside();
-  mine.here.isPosition = line !== 'new';
-  if (called) mine.here.record.called = called;
-  show();
-  page.told('');
-  page.drawTags();
+/** Begins another game by `set FEN`, of a position that is `called` so; it is kept once something is done with it. */
+export const another = (line, called = '') => begin(line, { isEmpty: true, isPosition: true, called });
+
+// ---- Undo at the first state of a game goes to the one from which it was begun, and redo from there to it.
+
+// The games that were left so since the last change; with each the one to which that led, and its state then.
+let left = [];
+
+export const noteChange = () => { left = []; };
+
+const isThere = (id) => mine.records.some((it) => it.id === id && !it.removed) || [...writing, ...unwritten].some(({ record }) => record.id === id);
+
+export const canUndo = () => game.history.canUndo() || (mine.here !== null && isThere(mine.here.record.from));
+const canReturn = () => left.length > 0 && left.at(-1).to === mine.here.record.id && left.at(-1).at === game.history.number;
+export const canRedo = () => game.history.canRedo() || canReturn();
+
+const goBack = async () => {
+  const it = mine.here;
+  if (game.history.canUndo() || !isThere(it.record.from) || !await opened(it.record.from)) return false;
+  left.push({ it, to: mine.here.record.id, at: game.history.number });
   page.draw();
   return true;
-});
+};
+
+const goOn = async () => {
+  if (!canReturn()) return false;
+  const { it } = left.pop();
+  const isKept = it.record.version > 0 || writing.has(it);
+  return isKept ? opened(it.record.id) : shownAgain(it.history, it.draft, () => put(it));
+};
+
+/** A step of undo, -1, or of redo, 1, that leads to another game; whether it did. Only in turn. */
+export const beyond = (by) => (mine.here === null ? false : by < 0 ? goBack() : goOn());
 
 export const rename = (id, name) => doing(async () => {
   if (id === mine.here.record.id) {
@@ -247,15 +315,16 @@ export const openKept = () => {
  */
 export const start = async (showing, wanted) => {
   show = showing;
-  const own = remembered();
+  const [own, from] = ['game', 'from'].map(remembered);
   try {
     mine.records = await openKept();
   } catch (error) {
     mine.trouble = `Nothing is kept in this browser: ${error.message}`;
   }
-  beside();
+  // (a game with which nothing was done is kept nowhere, and comes back as it was begun)
+  beside(game.history, { from: from ?? '' });
   addEventListener('beforeunload', (event) => {
-    if (unkept && mine.here.isMade) event.preventDefault();
+    if (isAtRisk()) event.preventDefault();
   });
   if (!hasStore()) return 'none';
   const live = mine.records.filter((it) => !it.removed);

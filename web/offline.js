@@ -1,23 +1,23 @@
 // Keeps the page's own files of one version in the browser, so that it opens without a net. A new version replaces them as a whole.
 // The list is written by tools/offline.
-const VERSION = '57487883c810c5c2';
+const VERSION = 'b02808145b36071a';
 const KEPT = {
-  'about.html': 'sha256-Nej96tHtdAtdlyGQe8vatahf+8xzSspGu5FMrkPCPo4=',
+  'about.html': 'sha256-r1CC3PSgnT3IeddTCQ+9Qc4Ht/lyiBkQBzsxB+mInYc=',
   'analysis.js': 'sha256-hJYnAoGHEQGyPt764FR/D4jDfFQ4+x1gz6O6vkj5TUM=',
   'ask.js': 'sha256-uqHZPTXBZ7DD0Fuz6d7kZrpLkyZxQbyMlDUkVxo5Klw=',
   'board.css': 'sha256-1SIGtrHf+ajfox6CxnDuHt85t0usFrKz5k0pjb8L81w=',
   'board.js': 'sha256-KEk8zTyPJKF1oeiDPncRtcnMxq1txoiQWgGznsrRb1w=',
   'dialogs.js': 'sha256-/KbZWhlQGqUilhiBnzxM02QiDbvKUAZY5WiI5kNVGio=',
-  'draw.js': 'sha256-q79wsqyNwjoQxKaaxJNyWalVgfhGBD6D/V04wcxiHKo=',
+  'draw.js': 'sha256-5pXJp9ta0vIGOvWLcbAPTcCLuY50Cwp45PyHv5JbOfQ=',
   'editor.js': 'sha256-CW9xUf71JzMWbNNuHnzfPbU9EWR2clZWxXmx1VHQ3QM=',
   'engine.js': 'sha256-XINIk4AlkbrbMMaBOUYsVq9+D8NFb4QxGGTlA3Oevo0=',
   'epd.js': 'sha256-xQn3GCHNc2Yqdh0gMV5ngVdUaQNX/WBZXprjkCkK10g=',
   'fen.js': 'sha256-tYVv38gdjVF02qg7ZhnHkVXIz6EbA+6cJslqsPCR140=',
-  'files.js': 'sha256-hq7gwhKzFFUk5HHgVhAOrVC3IF7y/H67mzJFxV63iA4=',
-  'game.js': 'sha256-R6XJTQErbhnTJvtVSAaNNNH6ZAjPYaFJ7/TkX/D8Utg=',
+  'files.js': 'sha256-Uu2HZX/poV6Vce4ouwfpLAMK5HgE+hjVIpUBJqER/e0=',
+  'game.js': 'sha256-YmPOus+oxgfpudZYkv7A/ZU/ut6jnogYvZGg9EiCW6g=',
   'history.js': 'sha256-b2xYiCnIoEXfhgI8jth/7pFno7cjEuzPowCCkZyQYLc=',
   'icon.svg': 'sha256-MIqbBfrY8jneIrbk+mcJq7TJSYDbHm5LwjQhbWTpmWU=',
-  'index.html': 'sha256-ZhZjDArkABU0LWOo2tqF3ERQhKalgiMVD+tiY4DL4Qk=',
+  'index.html': 'sha256-0N21y3oVQcC4oCtngdYOOvx4XyDoRVJrEV1/jjvRh/4=',
   'jatshegi.wasm': 'sha256-98P1G3cRx3v/IPMxr52gDZTUf7pEfq+Y78fyxvGpujw=',
   'jatshegi/src/boards.js': 'sha256-6isIqeZIN17Febcuk+uu5izw+q54Nzh/Xe8remjeGyY=',
   'jatshegi/src/bytes.js': 'sha256-L1KCUkgWQXHkntmbRa68OSfnQGFQUXUkQyDSGxZvCyE=',
@@ -34,17 +34,17 @@ const KEPT = {
   'jatshegi/src/questions.js': 'sha256-UwHlmdrvpdIHX778x5hZ2tXrKqLSZcJyQ9QQtJOx0+M=',
   'jatshegi/src/search.js': 'sha256-tb5krwVNfzmkC2fNaV0xzfi39StNgA/L70mvgNHxGUM=',
   'kept.js': 'sha256-vpP/bVdI8p6TCGMGRKn1e5vRVBq7u7djRam2xRtcoqM=',
-  'link.js': 'sha256-E5u0g81K7QAoYEgm3bgTsQpD2XcBRjjs1RDYIWAFROs=',
-  'main.js': 'sha256-uBwSPsGfhvBvuCFCnya0XCnF2+H6epZsYte3GNHlRvE=',
-  'mine.js': 'sha256-fq+fsIxUDec6b/94UiHzEFc3zBOZ/k52aM4PnKXyrMA=',
-  'own.js': 'sha256-+NRihL/JZ9gSXsBmeHsjxkf16jxt1wwMPYXfKU36QHY=',
+  'link.js': 'sha256-yOY4ch4C9jWHyzEGT1ozdyWf8krTURqNMwrGeWkneLk=',
+  'main.js': 'sha256-xwYCXlOAzO6UMJZY9IbkO4LsfmYVAfaVCkCNAyLr7OI=',
+  'mine.js': 'sha256-iFrKRb55WvGCqjgBMglRgYTcjtVq2BbhE2dHE2mWa94=',
+  'own.js': 'sha256-59wcSsJGCgiOu9ePaeF6DWM7VaSW5Rhqcj+D+ktElng=',
   'pgn.js': 'sha256-TxoePkcQmrumVSgjY6UWWb28LNwgXcrlPUfO+Oe+efo=',
   'settings.js': 'sha256-lfnY3Lee1w8sdBUo5DpbL5zUnuORJHD/B69WyxuGQrs=',
   'spellings.js': 'sha256-4ZUgPyCZJ5j4XbOYL9JMkb+ulsYm/jMrJLyqndlE4bo=',
   'store.js': 'sha256-C10zWHMq50ar1TXN97UWrl7czSU+khYnbTpapLDHo2A=',
-  'style.css': 'sha256-NqwDm5wwZGSc0242PSRIoICfvcEKje/OjW3srca3fu8=',
+  'style.css': 'sha256-Io29fm4n1p5ltZymedcMthBwSxVBBsLIc27hUFyC9RQ=',
   'words.js': 'sha256-GznX/PpEnbGf5FoCE7c1yJ675bC5LesFR1qgrlTGLVk=',
-  'worker.js': 'sha256-uBK3mhhz5Rs6mYBIFVYYI6N0GClqfmwaLPyx/QnCeXk=',
+  'worker.js': 'sha256-hcPzxqihlL8WdLvPoSMFLCgdpGtnEIMAnrJGsCNHIb0=',
 };
 // (end of the list)
 

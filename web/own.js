@@ -1,5 +1,6 @@
 // The list of the games that are kept in this browser.
-import { another, drop, mine, nameOf, openGame, putAway, rename } from './mine.js';
+import { begin } from './game.js';
+import { drop, mine, nameOf, openGame, putAway, recordsNow, rename } from './mine.js';
 
 const by = (id) => document.getElementById(id);
 
@@ -43,14 +44,18 @@ let drawn = '';
 export const drawOwn = () => {
   const here = mine.here?.record;
   if (!here) return;
-  const others = mine.records.filter((it) => it.id !== here.id);
+  const others = recordsNow().filter((it) => it.id !== here.id);
   const live = [here, ...others.filter((it) => !it.removed)].sort((a, b) => a.serial - b.serial || a.made - b.made);
   const away = others.filter((it) => it.removed).sort((a, b) => b.removed - a.removed);
   if (document.activeElement !== by('name')) by('name').value = here.name;
   by('name').placeholder = nameOf({ ...here, name: '' });
   by('gamename').textContent = nameOf(here);
-  by('keeping').textContent = mine.trouble || mine.failed ? 'not kept' : here.version ? 'kept' : '';
-  by('nokeeping').textContent = mine.trouble || mine.failed;
+  const fault = mine.trouble || mine.failed;
+  by('keeping').textContent = fault ? 'not kept' : here.version ? 'kept' : '';
+  by('nokeeping').textContent = fault;
+  // (said once, so that it is announced once)
+  const isRisky = mine.failed || (mine.trouble && mine.here.isMade);
+  if (by('unkept').textContent !== (isRisky ? fault : '')) by('unkept').textContent = isRisky ? fault : '';
   const now = JSON.stringify([here.id, ...[...live, ...away].map((it) => [it.id, nameOf(it), it.removed, it.changed && when(it.changed)])]);
   if (drawn === now) return;
   drawn = now;
@@ -63,7 +68,7 @@ export const drawOwn = () => {
 
 export const ownCommands = () => {
   by('another').onclick = async () => {
-    if (await another()) by('gamesbox').close();
+    if (await begin('new')) by('gamesbox').close();
   };
   by('name').onchange = () => rename(mine.here.record.id, by('name').value.trim());
 };

@@ -2,7 +2,7 @@
 import { position } from './epd.js';
 import { begin, beside, costOf, keep, line, on, placeIn, start, theMemory } from './jatshegi/src/boards.js';
 import { decode, fromBytes, toBytes } from './jatshegi/src/bytes.js';
-import { treeOf } from './jatshegi/src/export.js';
+import { tagsOf, treeOf } from './jatshegi/src/export.js';
 import { entries, listed, read, salvaged } from './jatshegi/src/games.js';
 import { FAULTS, MEMORY, NONE, OK, OWN_TAG } from './jatshegi/src/memory.js';
 import { typed } from './pgn.js';
@@ -203,6 +203,12 @@ class Parts {
   }
 }
 
+// Whether a game's text says no more than how the game ended: its tags but that one are those of a game of which nothing is known, and it has no move and no comment.
+const saysNothing = (bytes) => {
+  const told = (text) => JSON.stringify([tagsOf(text).tags.filter(([name]) => name !== 'Result'), treeOf(text)]);
+  return told(first(bytes).text) === told(first(toBytes('*')).text);
+};
+
 const entry = (bytes, { game, fault }) => {
   if (fault) return { number: fault.index + 1, at: fault.from, fault: fault.number, where: faultAt(bytes, fault.from, fault.number, fault.place) };
   const { index, place, length, tags, report } = game;
@@ -387,11 +393,14 @@ const jobs = {
     return { found: parts.found };
   },
 
-  // The games of a text, each with what the Laws say against it, or the faults of those that can't be read, some at a time.
-  async games({ bytes, id }) {
+  // The games of a text, each with what the Laws say against it, or the faults of those that can't be read, some at a time. What a person pasted may be anything: where
+  // it says nothing it is no game.
+  async games({ bytes, id, isPasted }) {
     const parts = new Parts(id);
     let count = 0;
     for (const it of listed(bytes)) {
+      const { game } = it;
+      if (isPasted && game?.report.plies === 0 && saysNothing(bytes.subarray(game.place, game.place + game.length))) continue;
       count++;
       parts.found.push(entry(bytes, it));
       await parts.pause();
