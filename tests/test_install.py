@@ -1,4 +1,7 @@
 """What people get who don't clone: installed into an empty folder and used from there, taken out again; the packages, made twice."""
+import hashlib
+import importlib.machinery
+import importlib.util
 import json
 import os
 import re
@@ -34,6 +37,14 @@ int main(void) {
 }
 """
 GAMES = '[White "a"]\n\n1. e4 e5 *\n\n[White "b"]\n\n1. e5 *\n\n[White "c"]\n\n1. f3 e5 2. g4 Qh4# 1-0\n'
+
+
+def module(name):
+    """A script of tools/ as a module."""
+    loader = importlib.machinery.SourceFileLoader(name, f"{runs.TOP}/tools/{name}")
+    loaded = importlib.util.module_from_spec(importlib.util.spec_from_loader(name, loader))
+    loader.exec_module(loaded)
+    return loaded
 
 
 def called(*words, **also):
@@ -123,7 +134,10 @@ class Installed(Used):
         laid = make("install", f"PREFIX={there}")
         files = sorted(os.path.relpath(it, there) for it in laid.splitlines() if it.startswith("/"))
         self.assertEqual(files, [it for it in paths_below(there) if not os.path.isdir(f"{there}/{it}") or os.path.islink(f"{there}/{it}")])
-        self.assertEqual("`ldconfig`" in laid, os.geteuid() == 0)
+        # (ldconfig doesn't look there)
+        self.assertNotIn("`ldconfig`", laid)
+        with open(f"{there}/lib/pkgconfig/jatshegi.pc", encoding="utf-8") as found, open(f"{runs.TOP}/DESCRIPTION", encoding="utf-8") as kept:
+            self.assertIn(f"\nDescription: {kept.read()}", found.read())
         self.assert_programs(f"{there}/bin")
         self.assert_links(f"{there}/lib")
         self.assert_imports(package_of(laid))
@@ -200,6 +214,46 @@ class Installed(Used):
         ran = called("python3", "-c", "import jatshegi; print(jatshegi.__file__)", env={"HOME": self.folder})
         self.assertTrue(ran.stdout.startswith(f"{self.folder}/.local/lib/"), ran.stderr)
 
+    def test_ldconfig_is_named_where_it_looks(self):
+        install = module("install")
+        self.assertIn("/usr/lib", install.linker_folders())
+        self.assertNotIn(f"{self.folder}/lib", install.linker_folders())
+
+    def test_each_function_has_a_page_of_its_name(self):
+        there = f"{self.folder}/there"
+        make("install", f"PREFIX={there}")
+        with open(f"{runs.TOP}/include/jatshegi.h", encoding="utf-8") as file:
+            functions = re.findall(r"^(?:void|uint32_t) (jatshegi_\w+)\(", file.read(), re.M)
+        for name in functions:
+            with open(f"{there}/share/man/man3/{name}.3", encoding="utf-8") as file:
+                leads = re.fullmatch(r"\.so (man3/jatshegi_[a-z]+\.3)\n", file.read())[1]
+            with open(f"{there}/share/man/{leads}", encoding="utf-8") as page:
+                self.assertIn(f".Nm {name}", re.split(r" ?,?\n", page.read()), leads)
+        self.wants("man")
+        shown = called("man", "-M", f"{there}/share/man", "jatshegi_board_play", env={"MANPAGER": "cat"})
+        self.assertIn("jatshegi_board_undo", shown.stdout, shown.stderr)
+
+    def test_without_python_it_says_so(self):
+        """So it does where Python lacks the most of its library, as Debian's python3-minimal."""
+        os.mkdir(f"{self.folder}/bin")
+        for python in (None, "exit 1"):
+            if python:
+                with open(f"{self.folder}/bin/python3", "w", encoding="utf-8") as file:
+                    file.write(f"#!/bin/sh\n{python}\n")
+                os.chmod(f"{self.folder}/bin/python3", 0o755)
+            ran = called(shutil.which("make"), "-C", runs.TOP, "install", f"PREFIX={self.folder}/there", env={"PATH": f"{self.folder}/bin"})
+            self.assertNotEqual(ran.returncode, 0)
+            self.assertEqual(ran.stderr.splitlines()[0], "make: this needs Python 3 with its standard library (Debian: apt install python3)")
+            self.assertFalse(os.path.exists(f"{self.folder}/there"))
+
+    def test_help_is_the_head_of_the_makefile(self):
+        lines = make("--no-print-directory", "help").splitlines()
+        with open(f"{runs.TOP}/Makefile", encoding="utf-8") as file:
+            head, rest = file.read().split("\n\n", 1)
+        self.assertEqual(lines, [line[2:] for line in head.splitlines()])
+        named = {it for line in re.findall(r"^([a-z ]+):(?: python)?\n\t", rest, re.M) for it in line.split()}
+        self.assertEqual({it for line in lines for it in re.findall(r"^ +make ([a-z]+)", line)}, named - {"help", "python"})
+
     def test_a_changed_file_is_not_installed(self):
         for path in ("release/x86_64-linux/bin/perft", "include/jatshegi.h", "python/jatshegi/pgn.py"):
             with self.subTest(path=path), tempfile.TemporaryDirectory() as folder:
@@ -247,9 +301,8 @@ class Installed(Used):
 class Packages(Used):
     @classmethod
     def setUpClass(cls):
-        for tool in ("dpkg-deb", "xz", "strip"):
-            if not shutil.which(tool):
-                raise unittest.SkipTest(f"{tool} is not on the path")
+        if not shutil.which("dpkg-deb"):
+            raise unittest.SkipTest("dpkg-deb is not on the path")
         cls.made = tempfile.TemporaryDirectory()
         cls.addClassCleanup(cls.made.cleanup)
         # The other is packed where a library has been built since.
@@ -269,6 +322,37 @@ class Packages(Used):
         for one, other in zip(*self.packages):
             with open(one, "rb") as first, open(other, "rb") as second:
                 self.assertTrue(first.read() == second.read(), one)
+
+    def test_each_packed_file_is_the_released_one(self):
+        """Each program and library that is packed has its sum in release/MANIFEST."""
+        with open(f"{runs.TOP}/release/MANIFEST", encoding="utf-8") as text:
+            sums = {path: digest for kind, path, _, digest in (line.split() for line in text if line.startswith("file "))}
+        for system, (package, tarball) in (("x86_64-linux", self.packages[0][0:2]), ("aarch64-linux", self.packages[0][5:7])):
+            for path, words in ((package, ["dpkg-deb", "--extract", package, f"{self.folder}/{system}"]), (tarball, ["tar", "-C", f"{self.folder}/{system}", "-xf", tarball])):
+                shutil.rmtree(f"{self.folder}/{system}", ignore_errors=True)
+                os.mkdir(f"{self.folder}/{system}")
+                self.assertEqual(called(*words).returncode, 0)
+                found = {}
+                for at, _, names in os.walk(f"{self.folder}/{system}"):
+                    for name in names:
+                        if f"{system}/bin/{name}" in sums and at.endswith("/bin") or f"{system}/lib/{name}" in sums:
+                            with open(f"{at}/{name}", "rb") as file:
+                                found[f"{system}/{'bin' if at.endswith('/bin') else 'lib'}/{name}"] = hashlib.sha256(file.read()).hexdigest()
+                self.assertEqual(found, {it: digest for it, digest in sums.items() if it.startswith(system)}, path)
+
+    def test_one_kind_needs_its_own_tools_alone(self):
+        os.mkdir(f"{self.folder}/bin")
+        for tool in ("make", "python3"):
+            os.symlink(shutil.which(tool), f"{self.folder}/bin/{tool}")
+        few = {"PATH": f"{self.folder}/bin"}
+        ran = called(f"{runs.TOP}/tools/packages", "--tarball", "--wheel", "--npm", "--crate", f"{self.folder}/out", env=few)
+        self.assertEqual(ran.returncode, 0, ran.stderr)
+        self.assertEqual([os.path.basename(it) for it in ran.stdout.split()], [os.path.basename(it) for it in self.packages[0] if not it.endswith(".deb")])
+        ran = called(f"{self.folder}/bin/make", "--no-print-directory", "-C", runs.TOP, "deb", env=few)
+        self.assertNotEqual(ran.returncode, 0)
+        self.assertEqual(ran.stderr.splitlines()[0], "packages: dpkg-deb is not on the path, and `make deb` needs it; these don't: `make tarball` `make wheel` `make npm` `make crate`")
+        ran = called(f"{runs.TOP}/tools/packages", "--rpm")
+        self.assertTrue(ran.stderr.startswith("usage: tools/packages"), ran.stderr)
 
     def test_each_has_the_released_library(self):
         with open(f"{runs.TOP}/release/x86_64-linux/lib/libjatshegi.so.1", "rb") as file:
@@ -358,7 +442,7 @@ class GetIt(Used):
 
     def setUp(self):
         super().setUp()
-        for tool in ("make", "dpkg-deb", "xz", "strip"):
+        for tool in ("make", "dpkg-deb", "xz"):
             self.wants(tool)
         self.top = copied(f"{self.folder}/clone")
         self.there, self.unpacked, tools = (f"{self.folder}/{it}" for it in ("there", "unpacked", "tools"))
