@@ -16,6 +16,7 @@ PLATFORM = "manylinux_2_17_x86_64"
 # The part in C, which may be missing, and which only CPython takes that isn't free-threaded: without it any Python 3 takes the wheel.
 FAST = ["jatshegi/_fast.abi3.so", "../release/x86_64-linux/lib/_fast.abi3.so"]
 LIBRARIES = ["jatshegi/libjatshegi.so", "../release/x86_64-linux/lib/libjatshegi.so.1"]
+SUMMARY = "Chess rules, PGN and a UCI engine: a prover has checked that the core's answers follow from written definitions of the FIDE Laws and the PGN standard."
 CLASSIFIERS = [
     "Intended Audience :: Developers",
     "Operating System :: POSIX :: Linux",
@@ -62,7 +63,7 @@ def sources():
 
 def metadata():
     lines = [
-        *("Metadata-Version: 2.1", "Name: jatshegi", f"Version: {version()}", "Summary: A chess board in which every answer is proved"),
+        *("Metadata-Version: 2.1", "Name: jatshegi", f"Version: {version()}", f"Summary: {SUMMARY}"),
         *("License: MIT OR Apache-2.0", "Requires-Python: >=3.9", "Keywords: chess,pgn,fen,uci", *(f"Classifier: {it}" for it in CLASSIFIERS)),
         "Description-Content-Type: text/markdown",
     ]

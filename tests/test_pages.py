@@ -94,7 +94,7 @@ class Pages(unittest.TestCase):
         tools = [f"tools/{name}" for name in os.listdir(f"{runs.TOP}/tools")]
         suite = [f"suite/{name}" for name in glob.glob("run*", root_dir=f"{runs.TOP}/suite") + glob.glob("*.jsonl", root_dir=f"{runs.TOP}/suite")]
         suite += glob.glob("suite/boards/*.*", root_dir=runs.TOP)
-        for path in ("chess", "build", "test", *tools, *suite, "crates.txt", "include/jatshegi.h", "rust/build.rs", *python, *rust, *script):
+        for path in ("chess", "build", "test", "DESCRIPTION", *tools, *suite, "crates.txt", "include/jatshegi.h", "rust/build.rs", *python, *rust, *script):
             cls.words.update(re.findall(r"[\w-]+", text_of(path)))
 
     def test_each_link_leads_somewhere(self):
@@ -235,6 +235,27 @@ class Pages(unittest.TestCase):
             with self.subTest(release=head):
                 self.assertEqual(kinds, [it for it in ("Added", "Changed", "Deprecated", "Removed", "Fixed", "Security", "Proved") if it in kinds])
         self.assertRegex(text_of("CITATION.cff"), rf'(?m)^version: "{re.escape(runs.VERSION)}"\ndate-released: "\d{{4}}-\d\d-\d\d"$')
+
+    def test_each_product_says_the_sentence_of_the_description(self):
+        """The one line of DESCRIPTION, in each place that a user may read first; or its beginning, if there is little room."""
+        sentence = text_of("DESCRIPTION").strip()
+        summary = sentence.split(":")[0]
+        self.assertEqual(text_of("DESCRIPTION"), f"{sentence}\n")
+        short = {"CITATION.cff": f'title: "Jatshegi: {summary[0].lower()}{summary[1:]}"\n', "man/jatshegi.3": f".Nd {summary[0].lower()}{summary[1:]}\n"}
+        # (these have it in one line, as a value)
+        values = {"rust/Cargo.toml": f'description = "{sentence}"\n', "python/pyproject.toml": f'description = "{sentence}"\n', "python/packing.py": f'SUMMARY = "{sentence}"\n'}
+        values |= {"web/jatshegi/package.json": f'"description": "{sentence}",\n', "web/about.html": f"<p>{sentence}</p>\n", "web/index.html": f'An analysis board for chess. {sentence}">\n'}
+        values |= {"python/jatshegi/__init__.py": f'"""{sentence}\n', "tools/libraries": "\nDescription: $(cat DESCRIPTION)\n"}
+        for path, text in [*short.items(), *values.items()]:
+            with self.subTest(path=path):
+                self.assertIn(text, text_of(path))
+        for path in ("include/jatshegi.h", "rust/src/lib.rs", "rust/README.md", "python/README.md", "web/jatshegi/README.md", "man/jatshegi.3", "CITATION.cff"):
+            with self.subTest(path=path):
+                self.assertIn(sentence, " ".join(re.sub(r"^(//!| \*)", "", text_of(path), flags=re.M).split()))
+        told = re.compile(r"every answer is proved|(proved|whose) answers|answers are proved")
+        for path in [*short, *values, "include/jatshegi.h", "rust/src/lib.rs", "rust/README.md", "python/README.md", "web/jatshegi/README.md", "man/chess.1", "tools/packages", "tools/install"]:
+            with self.subTest(path=path):
+                self.assertIsNone(told.search(text_of(path)))
 
     def test_the_measures_by_release_are_those_that_are_kept(self):
         rows = [row.split(",") for row in text_of("docs/benchmarks.csv").splitlines()[1:]]

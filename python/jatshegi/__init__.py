@@ -1,4 +1,4 @@
-"""Jatshegi: a chess board in which every answer is proved.
+"""Chess rules, PGN and a UCI engine: a prover has checked that the core's answers follow from written definitions of the FIDE Laws and the PGN standard.
 
     >>> import jatshegi
     >>> board = jatshegi.Board()

@@ -1,4 +1,6 @@
-//! A chess board in which every answer is proved: a safe layer over `libjatshegi`, the library for C.
+//! Chess rules, PGN and a UCI engine: a prover has checked that the core's answers follow from written definitions of the FIDE Laws and the PGN standard.
+//!
+//! This crate is a safe layer over `libjatshegi`, the library for C; the layer is tested.
 //!
 //! ```
 //! use jatshegi::{Board, Status};
@@ -14,8 +16,8 @@
 //! ```
 //!
 //! A [`Board`] is a game tree with a cursor. All that is asked is asked of the position at the cursor, or of the line of moves from the root to it, so that
-//! repetitions and claims are known. The functions of the library are proved to answer what the Laws of Chess say (`docs/PROMISES.md` of the repository says which);
-//! this layer is tested. It takes memory by C's `malloc`, and where there is none a call says so and changes nothing.
+//! repetitions and claims are known. `docs/PROMISES.md` of the repository says what is proved of the library. The crate takes memory by C's `malloc`, and where
+//! there is none a call says so and changes nothing.
 //!
 //! ```
 //! // A board may go to another thread; one thread at a time uses it.
