@@ -314,6 +314,16 @@ class Pages(unittest.TestCase):
             with self.subTest(crate=name):
                 self.assertTrue(f"`{name}`" in text_of("docs/ARCHITECTURE.md"), name)
 
+    def test_what_is_trusted_names_each_crate_of_the_kit(self):
+        rows = re.findall(r"^([a-z_]+)(?: staticlib)?:(.*)$", text_of("crates.txt"), flags=re.M)
+        trusted = text_of("docs/PROMISES.md").split("\n## What is trusted\n")[1]
+        # (two are parts of std)
+        for crate in {it for _, below in rows for it in below.split()} - {name for name, _ in rows} - {"core", "std_alloc"}:
+            with self.subTest(crate=crate):
+                self.assertRegex(trusted, rf"\b{crate}\b")
+        for page in (trusted, text_of("docs/QUESTIONS.md")):
+            self.assertIn("`python/jatshegi/_fast.c`", page)
+
     def test_the_folder_of_crates_has_its_map(self):
         """The sections and crates of crates/README.md are those of crates.txt, in order."""
         rows = re.findall(r"^(?:# (.*)|([a-z_]+)(?: staticlib)?:.*)$", text_of("crates.txt"), flags=re.M)
