@@ -84,8 +84,8 @@ enum jatshegi_status {
     JATSHEGI_FEN_PAWN_RANK = 24,    /* a pawn on the first or the last rank */
     JATSHEGI_FEN_TOO_MANY_MEN = 25, /* more than 16 men of a side */
     JATSHEGI_FEN_SIDE = 26,         /* the side to move is neither w nor b */
-    JATSHEGI_FEN_CASTLING = 27,     /* neither - nor different letters of KQkq */
-    JATSHEGI_FEN_TARGET = 28,       /* the en passant field is neither - nor a square */
+    JATSHEGI_FEN_CASTLING = 27,     /* neither - nor different letters of KQkq; of fields also a right without its king or rook at home */
+    JATSHEGI_FEN_TARGET = 28,       /* the en passant field is neither - nor a square; of fields also one that no pawn has just passed over */
     JATSHEGI_FEN_COUNTER = 29,      /* a counter is no number up to 99,999 */
     JATSHEGI_FEN_IN_CHECK = 30,     /* the side not to move is in check */
     /* No game (PGN) is at the start of a text: the first fault. */
@@ -99,7 +99,7 @@ enum jatshegi_status {
     JATSHEGI_PGN_TOO_LARGE = 49  /* more than 1,048,576 bytes, or 20,000 plies in a line */
 };
 
-/* What a status says, for people: a constant text, not to be freed. */
+/* The fault that a status names, or that there is none, for people: a constant text, not to be freed. */
 static inline const char *jatshegi_status_text(uint32_t status) {
     switch (status) {
     case JATSHEGI_OK: return "it is done";
@@ -108,28 +108,28 @@ static inline const char *jatshegi_status_text(uint32_t status) {
     case JATSHEGI_ILLEGAL: return "the move isn't legal";
     case JATSHEGI_AMBIGUOUS: return "the text names more than one legal move";
     case JATSHEGI_FORM: return "the text has no form of a move";
-    case JATSHEGI_TOO_LONG: return "a line has at most 20,000 plies";
-    case JATSHEGI_FULL: return "a game holds at most 1,000,000 moves";
+    case JATSHEGI_TOO_LONG: return "the cursor is 20,000 plies deep";
+    case JATSHEGI_FULL: return "the tree holds 1,000,000 moves";
     case JATSHEGI_AT_ROOT: return "the cursor is at the root";
     case JATSHEGI_ARGUMENT: return "a number is out of its range";
     case JATSHEGI_NO_ROOM: return "the answer is longer than the room for it";
     case JATSHEGI_NONE: return "there is no legal move, or no search";
     case JATSHEGI_NO_SUCH: return "there is no such child, or no such tag";
-    case JATSHEGI_BAD_COMMENT: return "a comment has no right brace";
+    case JATSHEGI_BAD_COMMENT: return "the comment has a right brace";
     case JATSHEGI_MORE: return "more bytes decide what is there";
     case JATSHEGI_NO_GAME: return "only whitespace follows";
     case JATSHEGI_ABANDONED: return "the search was abandoned";
-    case JATSHEGI_TAG_NAME: return "a tag's name has letters, digits and underscores, at least one";
-    case JATSHEGI_TAG_OWN: return "the game itself has its result and its start";
-    case JATSHEGI_TAG_VALUE: return "a tag's value is on one line";
-    case JATSHEGI_FEN_FIELDS: return "a FEN has four or six fields";
+    case JATSHEGI_TAG_NAME: return "the name of the tag is empty, or has a byte that is no letter, digit or underscore";
+    case JATSHEGI_TAG_OWN: return "Result, FEN and SetUp are no tags: the game itself has what they say";
+    case JATSHEGI_TAG_VALUE: return "the value of the tag has a line feed";
+    case JATSHEGI_FEN_FIELDS: return "the FEN has neither four nor six fields";
     case JATSHEGI_FEN_PLACEMENT: return "the men are not eight ranks of eight squares";
-    case JATSHEGI_FEN_KINGS: return "each side has one king";
+    case JATSHEGI_FEN_KINGS: return "a side has no king, or more than one";
     case JATSHEGI_FEN_PAWN_RANK: return "a pawn is on the first or the last rank";
-    case JATSHEGI_FEN_TOO_MANY_MEN: return "a side has at most 16 men";
-    case JATSHEGI_FEN_SIDE: return "the side to move is w or b";
-    case JATSHEGI_FEN_CASTLING: return "the castling rights are none of this position";
-    case JATSHEGI_FEN_TARGET: return "the en passant target is none of this position";
+    case JATSHEGI_FEN_TOO_MANY_MEN: return "a side has more than 16 men";
+    case JATSHEGI_FEN_SIDE: return "the side to move is neither w nor b";
+    case JATSHEGI_FEN_CASTLING: return "the castling rights are neither - nor different letters of KQkq, or one lacks its king or rook at home";
+    case JATSHEGI_FEN_TARGET: return "the en passant target is neither - nor a square, or no pawn has just passed over it";
     case JATSHEGI_FEN_COUNTER: return "a counter is no number up to 99,999";
     case JATSHEGI_FEN_IN_CHECK: return "the side not to move is in check";
     case JATSHEGI_PGN_TOKEN: return "bytes that are no token of PGN";

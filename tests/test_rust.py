@@ -46,6 +46,16 @@ class Declarations(unittest.TestCase):
         for name, number in re.findall(r"pub const (MOST_\w+): usize = (\d+);", ours):
             self.assertRegex(header, rf"JATSHEGI_{name} = {number}\b")
 
+    def test_errors_are_told_as_in_c(self):
+        """Each fault of the crate has the sentence of jatshegi_status_text for its status."""
+        header = dict(re.findall(r'case JATSHEGI_(\w+): return "([^"]*)";', read("include/jatshegi.h")))
+        told = re.findall(r'\b(FenError|GameFault|Error)::(\w+) => "([^"]*)"', read("rust/src/error.rs"))
+        self.assertGreater(len(told), 30)
+        for kind, name, text in told:
+            status = {"FenError": "FEN_", "GameFault": "PGN_", "Error": ""}[kind] + re.sub(r"(?<!^)([A-Z])", r"_\1", name).upper()
+            with self.subTest(status=status):
+                self.assertEqual(text, header[status])
+
     def test_the_version_is_that_of_all(self):
         self.assertIn(f'version = "{read("VERSION").strip()}"', read("rust/Cargo.toml"))
 

@@ -14,9 +14,9 @@ pub enum Error {
     Ambiguous,
     /// The text has no form of a move.
     Form,
-    /// A line has at most 20,000 plies.
+    /// The cursor is 20,000 plies deep.
     TooLong,
-    /// A game holds at most 1,000,000 moves.
+    /// The tree holds 1,000,000 moves.
     Full,
     /// The cursor is at the root.
     AtRoot,
@@ -26,7 +26,7 @@ pub enum Error {
     None,
     /// There is no such child, or no such tag.
     NoSuch,
-    /// A comment has no right brace (PGN 5).
+    /// The comment has a right brace (PGN 5).
     BadComment,
     /// The search was abandoned.
     Abandoned,
@@ -34,7 +34,7 @@ pub enum Error {
     TagName,
     /// The game itself has its result and its start: Result, FEN and SetUp are no tags.
     TagOwn,
-    /// A tag's value is on one line.
+    /// The value of the tag has a line feed.
     TagValue,
     /// A text is no FEN, or fields are no position.
     Fen(FenError),
@@ -168,14 +168,14 @@ pub(crate) fn checked(status: u32) -> Result<(), Error> {
 impl fmt::Display for FenError {
     fn fmt(&self, f: &mut fmt::Formatter<'_>) -> fmt::Result {
         f.write_str(match self {
-            FenError::Fields => "a FEN has four or six fields",
+            FenError::Fields => "the FEN has neither four nor six fields",
             FenError::Placement => "the men are not eight ranks of eight squares",
-            FenError::Kings => "each side has one king",
+            FenError::Kings => "a side has no king, or more than one",
             FenError::PawnRank => "a pawn is on the first or the last rank",
-            FenError::TooManyMen => "a side has at most 16 men",
-            FenError::Side => "the side to move is w or b",
-            FenError::Castling => "the castling rights are none of this position",
-            FenError::Target => "the en passant target is none of this position",
+            FenError::TooManyMen => "a side has more than 16 men",
+            FenError::Side => "the side to move is neither w nor b",
+            FenError::Castling => "the castling rights are neither - nor different letters of KQkq, or one lacks its king or rook at home",
+            FenError::Target => "the en passant target is neither - nor a square, or no pawn has just passed over it",
             FenError::Counter => "a counter is no number up to 99,999",
             FenError::InCheck => "the side not to move is in check",
         })
@@ -185,7 +185,7 @@ impl fmt::Display for FenError {
 impl fmt::Display for GameError {
     fn fmt(&self, f: &mut fmt::Formatter<'_>) -> fmt::Result {
         let what = match self.fault {
-            GameFault::Token => "bytes that are no token",
+            GameFault::Token => "bytes that are no token of PGN",
             GameFault::Tag => "a tag that is none",
             GameFault::Move => "a word that names no legal move, or more than one",
             GameFault::Variation => "a variation that doesn't fit",
@@ -205,17 +205,17 @@ impl fmt::Display for Error {
             Error::Illegal => "the move isn't legal",
             Error::Ambiguous => "the text names more than one legal move",
             Error::Form => "the text has no form of a move",
-            Error::TooLong => "a line has at most 20,000 plies",
-            Error::Full => "a game holds at most 1,000,000 moves",
+            Error::TooLong => "the cursor is 20,000 plies deep",
+            Error::Full => "the tree holds 1,000,000 moves",
             Error::AtRoot => "the cursor is at the root",
             Error::Argument => "a number is out of its range",
             Error::None => "there is no legal move, or no search",
             Error::NoSuch => "there is no such child, or no such tag",
-            Error::BadComment => "a comment has no right brace",
+            Error::BadComment => "the comment has a right brace",
             Error::Abandoned => "the search was abandoned",
-            Error::TagName => "a tag's name has letters, digits and underscores, at least one",
-            Error::TagOwn => "the game itself has its result and its start",
-            Error::TagValue => "a tag's value is on one line",
+            Error::TagName => "the name of the tag is empty, or has a byte that is no letter, digit or underscore",
+            Error::TagOwn => "Result, FEN and SetUp are no tags: the game itself has what they say",
+            Error::TagValue => "the value of the tag has a line feed",
             Error::Fen(fault) => return write!(f, "no position: {fault}"),
             Error::Game(fault) => return fmt::Display::fmt(fault, f),
         })

@@ -153,7 +153,7 @@ fn what_is_refused_changes_nothing() {
             Err(Error::AtRoot)
         )
     );
-    assert_eq!(Error::Fen(FenError::Kings).to_string(), "no position: each side has one king");
+    assert_eq!(Error::Fen(FenError::Kings).to_string(), "no position: a side has no king, or more than one");
 }
 
 #[test]
