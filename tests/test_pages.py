@@ -264,7 +264,7 @@ class Pages(unittest.TestCase):
         self.assertEqual(shown, {(version, name): f"{int(value) / 1e6:.2f}" for version, _, name, value in rows}, "make it anew: tools/benchmarks --table")
 
     def test_what_a_wrong_body_or_a_part_replaces_occurs_once(self):
-        for path in glob.glob("crates/*/must-fail/*.edit", root_dir=runs.TOP) + glob.glob("crates/*/wrong/*.edit", root_dir=runs.TOP):
+        for path in [it for folder in ("must-fail", "wrong", "right") for it in glob.glob(f"crates/*/{folder}/*.edit", root_dir=runs.TOP)]:
             text = text_of(path)
             source = text_of(f"{os.path.dirname(os.path.dirname(path))}/{re.search(r'^file: (.*)$', text, re.M)[1]}")
             with self.subTest(path=path):
@@ -278,6 +278,16 @@ class Pages(unittest.TestCase):
         for source, old in re.findall(r"^file: (.*)\nold: (.*)\n", text_of("crates/chess_examples/parts.txt"), re.M):
             with self.subTest(source=source, old=old):
                 self.assertEqual(text_of(f"crates/{source}").count(re.sub("[⟦⟧]", "", old).replace("\\n", "\n")), 1)
+
+    def test_a_right_body_stands_beside_a_wrong_one(self):
+        """It has the same name, is in the same file, and replaces the same text."""
+        paths = glob.glob("crates/*/right/*.edit", root_dir=runs.TOP)
+        self.assertTrue(paths)
+        for path in paths:
+            with self.subTest(path=path):
+                wrong = [it for folder in ("must-fail", "wrong") if os.path.exists(f"{runs.TOP}/{(it := path.replace('/right/', f'/{folder}/'))}")]
+                self.assertEqual(len(wrong), 1)
+                self.assertEqual(re.findall(r"^(?:file|old): .*$", text_of(path), re.M), re.findall(r"^(?:file|old): .*$", text_of(wrong[0]), re.M))
 
     def test_each_definition_is_explained(self):
         """Each definition of specs/ has a comment before it or a row at the head of its file, and each row names what the file has."""
