@@ -95,13 +95,26 @@ pub struct Setup {
     pub fullmove_number: u32,
 }
 
+fn color(side: u8) -> Color {
+    if side == 0 {
+        Color::White
+    } else {
+        Color::Black
+    }
+}
+
+/// The rights of White and of Black in the byte that has both.
+fn castling(rights: u8) -> [(bool, bool); 2] {
+    let held = |bits: u8| (rights >> bits & 1 == 1, rights >> bits & 2 == 2);
+    [held(0), held(2)]
+}
+
 impl Setup {
     fn of(position: &sys::Position) -> Setup {
-        let held = |bits: u8| (position.castling >> bits & 1 == 1, position.castling >> bits & 2 == 2);
         Setup {
             pieces: position.men.map(|letter| Piece::from_char(letter as char)),
-            turn: if position.side == 0 { Color::White } else { Color::Black },
-            castling: [held(0), held(2)],
+            turn: color(position.side),
+            castling: castling(position.castling),
             ep_square: Square::new(position.target),
             halfmove_clock: position.clock,
             fullmove_number: position.number,
@@ -253,7 +266,7 @@ impl Board {
 
     /// The side to move.
     pub fn turn(&self) -> Color {
-        self.setup().turn
+        color(self.position().side)
     }
 
     /// The man on a square.
@@ -269,7 +282,7 @@ impl Board {
 
     /// Whether the side may still castle with the rook of file h, and with that of file a (FIDE Laws 3.8.2.1).
     pub fn castling_rights(&self, side: Color) -> (bool, bool) {
-        self.setup().castling[side as usize]
+        castling(self.position().castling)[side as usize]
     }
 
     /// The square that a pawn has just passed over with two steps (FIDE Laws 3.7.3.1).
@@ -340,7 +353,8 @@ impl Board {
         short(|text, room, length| unsafe { sys::jatshegi_board_write(self.at(), m.raw(), text, room, length) })
     }
 
-    /// Makes a move: steps to its node, which is added where there is none. Says whether it was added, for [`Board::undo`].
+    /// Makes a move: steps to its node, which is added where there is none. Says whether it was added, for [`Board::undo`]. A legal move is made also after the
+    /// game is over, for example by a fifth repetition: [`Board::status`] says whether it is over.
     ///
     /// # Errors
     ///
@@ -364,7 +378,8 @@ impl Board {
         Ok(added)
     }
 
-    /// Takes back the move that led to the cursor. With what [`Board::play`] answered the tree is then as it was before it; with `false` the node stays.
+    /// Takes back the move that led to the cursor. With what [`Board::play`] answered the tree is then as it was before it; with `false` the node stays, and so
+    /// does a node with a child, a comment or an annotation number. A player's takeback is [`Board::delete`], which takes out such a node, too.
     ///
     /// # Errors
     ///

@@ -14,7 +14,7 @@ use core::str::FromStr;
 /// assert_eq!((m.from, m.to, m.promotion), (Square::E7, Square::E8, Some(Role::Queen)));
 /// assert_eq!(m.to_string(), "e7e8q");
 /// ```
-#[derive(Clone, Copy, Debug, PartialEq, Eq, Hash)]
+#[derive(Clone, Copy, Debug, PartialEq, Eq, Hash, PartialOrd, Ord)]
 #[allow(missing_docs)]
 pub struct Move {
     pub from: Square,
@@ -117,6 +117,14 @@ impl Iterator for Moves {
 
     fn size_hint(&self) -> (usize, Option<usize>) {
         (self.count - self.at, Some(self.count - self.at))
+    }
+}
+
+impl DoubleEndedIterator for Moves {
+    fn next_back(&mut self) -> Option<Move> {
+        let m = *self.all[self.at..self.count].last()?;
+        self.count -= 1;
+        Some(Move::of(m))
     }
 }
 

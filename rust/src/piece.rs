@@ -34,6 +34,9 @@ pub enum Role {
 }
 
 impl Role {
+    /// All six, the pawn first.
+    pub const ALL: [Role; 6] = [Role::Pawn, Role::Knight, Role::Bishop, Role::Rook, Role::Queen, Role::King];
+
     /// Its letter in English, in lower case.
     pub const fn char(self) -> char {
         match self {

@@ -1,5 +1,6 @@
 //! Squares.
 use core::fmt;
+use core::ops::{BitAnd, BitOr, Not};
 use core::str::FromStr;
 
 /// A square, a1 to h8.
@@ -125,6 +126,33 @@ impl Squares {
     /// Whether there is none.
     pub const fn is_empty(self) -> bool {
         self.0 == 0
+    }
+}
+
+/// The squares of both sets.
+impl BitAnd for Squares {
+    type Output = Squares;
+
+    fn bitand(self, other: Squares) -> Squares {
+        Squares(self.0 & other.0)
+    }
+}
+
+/// The squares of either set.
+impl BitOr for Squares {
+    type Output = Squares;
+
+    fn bitor(self, other: Squares) -> Squares {
+        Squares(self.0 | other.0)
+    }
+}
+
+/// The other squares.
+impl Not for Squares {
+    type Output = Squares;
+
+    fn not(self) -> Squares {
+        Squares(!self.0)
     }
 }
 

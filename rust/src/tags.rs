@@ -23,7 +23,8 @@ impl Board {
         }
     }
 
-    /// The whole game in export form (PGN 3.2).
+    /// The whole game in export form (PGN 3.2). A text of more than 1,048,576 bytes, or with more than 128 variations within one another, is written, but
+    /// [`Board::load`] and [`Games`](crate::Games) refuse it; long comments and tags alone make such a text.
     ///
     /// # Errors
     ///

@@ -1,6 +1,7 @@
 //! Texts that the library writes.
 use crate::error::{checked, Error};
 use crate::sys;
+use alloc::string::String;
 use alloc::vec::Vec;
 use core::fmt;
 use core::ops::Deref;
@@ -24,6 +25,12 @@ impl<const N: usize> Deref for Text<N> {
 
     fn deref(&self) -> &str {
         self.as_str()
+    }
+}
+
+impl<const N: usize> From<Text<N>> for String {
+    fn from(text: Text<N>) -> String {
+        String::from(text.as_str())
     }
 }
 

@@ -286,6 +286,31 @@ impl Chance {
     }
 }
 
+#[test]
+fn lists_and_sets() {
+    let board = Board::from_fen(KIWIPETE).unwrap();
+    let (moves, mut both) = (board.legal_moves(), board.legal_moves());
+    let backwards: Vec<Move> = moves.clone().rev().collect();
+    assert_eq!(backwards.iter().rev().copied().collect::<Vec<_>>(), moves.clone().collect::<Vec<_>>());
+    assert_eq!(
+        (both.next(), both.next_back(), both.len()),
+        (moves.clone().next(), backwards.first().copied(), 46)
+    );
+    let (white, black) = (board.attackers(Color::White, Square::E6), board.attackers(Color::Black, Square::E6));
+    assert_eq!(
+        ((white | black).len(), (white & black).is_empty(), (!white & white).len()),
+        (white.len() + black.len(), true, 0)
+    );
+    assert!(Role::ALL.iter().all(|role| Role::from_char(role.char()) == Some(*role)));
+    assert_eq!(String::from(board.fen()), KIWIPETE);
+    assert_eq!((board.turn(), board.castling_rights(Color::Black)), (board.setup().turn, (true, true)));
+    let after = Board::from_fen("r3k2r/8/8/8/8/8/8/R3K2R b Kq - 0 1").unwrap();
+    assert_eq!(
+        (after.turn(), after.castling_rights(Color::White), after.castling_rights(Color::Black)),
+        (Color::Black, (true, false), (false, true))
+    );
+}
+
 /// The library writes to a shared handle, so its bytes are in an `UnsafeCell`: `None` has no spare value there, and needs bytes of its own.
 #[test]
 fn a_handle_may_be_written_to_behind_a_shared_reference() {
