@@ -214,6 +214,30 @@ class Installed(Used):
         ran = called("python3", "-c", "import jatshegi; print(jatshegi.__file__)", env={"HOME": self.folder})
         self.assertTrue(ran.stdout.startswith(f"{self.folder}/.local/lib/"), ran.stderr)
 
+    def test_cmake_finds_the_library(self):
+        self.wants("cmake")
+        make("install", f"PREFIX={self.folder}/before")
+        # (a tree that has been moved)
+        there = f"{self.folder}/there"
+        os.rename(f"{self.folder}/before", there)
+        major, minor, _ = runs.VERSION.split(".")
+        os.mkdir(f"{self.folder}/project")
+        with open(f"{self.folder}/project/program.c", "w", encoding="utf-8") as file:
+            file.write(C_PROGRAM)
+        for number, (wanted, is_found) in enumerate((("", True), (f"{major}.{minor}", True), (runs.VERSION, True), (f"{major}.{int(minor) + 1}", False), (f"{major}.{minor}.9999", False))):
+            with open(f"{self.folder}/project/CMakeLists.txt", "w", encoding="utf-8") as file:
+                file.write(f"cmake_minimum_required(VERSION 3.10)\nproject(mine C)\nfind_package(jatshegi {wanted} REQUIRED)\n")
+                for name, target in (("dynamic", "jatshegi"), ("static", "static")):
+                    file.write(f"add_executable({name} program.c)\ntarget_link_libraries({name} jatshegi::{target})\n")
+            made = f"{self.folder}/made{number}"
+            ran = called("cmake", "-S", f"{self.folder}/project", "-B", made, f"-DCMAKE_PREFIX_PATH={there}")
+            self.assertEqual(ran.returncode == 0, is_found, ran.stdout + ran.stderr)
+            if number == 0:
+                ran = called("cmake", "--build", made)
+                self.assertEqual(ran.returncode, 0, ran.stdout + ran.stderr)
+                for name in ("dynamic", "static"):
+                    self.assertEqual(called(f"{made}/{name}").stdout, f"{runs.VERSION} 20\n")
+
     def test_ldconfig_is_named_where_it_looks(self):
         install = module("install")
         self.assertIn("/usr/lib", install.linker_folders())
