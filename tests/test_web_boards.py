@@ -371,7 +371,8 @@ class Boards:
         self.until_edited("4k3/8/8/3pP3/8/8/8/R3K2R w KQk d6 7 33", "It is read as 4k3/8/8/3pP3/8/8/8/R3K2R w KQ d6 7 33")
         page.found("#fenform .main").click()
         page.until(lambda: page.fen == "4k3/8/8/3pP3/8/8/8/R3K2R w KQ d6 7 33" and not page.script("return document.getElementById('fenbox').open"), "it is on the board")
-        self.assertEqual((page.moves, self.own()), ("", 1))
+        page.until(lambda: self.own() == 2, "the game that was there is listed, too")
+        self.assertEqual(page.moves, "")
         page.script("document.getElementById('undo').click()")
         page.until_moves("1. e4 e5")
         # what was not set is given up with the box

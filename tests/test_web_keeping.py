@@ -366,6 +366,7 @@ class Keeping(Browsing):
             while self.text() != had:
                 page.script("document.getElementById('undo').click()")
             page.script("document.getElementById('undo').click()")
+            page.until_moves("1. e4 e5")
             page.play("a3")
             self.reload()
             found = set()

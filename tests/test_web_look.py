@@ -10,6 +10,9 @@ import test_web
 setUpModule, tearDownModule = test_web.setUpModule, test_web.tearDownModule
 
 SIZES = {"phone": (360, 740), "tablet": (768, 1024), "laptop": (1024, 768), "desk": (1440, 900), "wide": (2560, 1440), "on its side": (844, 390), "twice as large": (720, 450)}
+# Windows of phones upright and on their side, with the browser's bars, and of pages shown larger.
+SMALL = [(320, 256), (320, 480), (360, 560), (375, 553), (390, 664), (427, 267), (480, 320), (512, 320), (560, 380), (568, 320), (576, 460), (580, 560), (600, 400), (600, 640), (640, 400),
+         (667, 375), (720, 450), (800, 700), (900, 900), (1280, 600), (1280, 800)]
 GAME = ('[White "Caruana, Fabiano"]\n[Black "Nakamura, Hikaru"]\n[WhiteElo "2804"]\n[BlackElo "2802"]\n[Result "1-0"]\n\n1. e4 e5 2. Nf3 Nc6 3. Bc4 {The Italian.} Bc5 (3... Nf6 4. Ng5 $5 d5'
         ' 5. exd5 Na5 $1 {and not 5... Nxd5} (5... Nd4 6. c3)) 4. b4 $1 Bxb4 5. c3 Ba5 6. d4 exd4 7. O-O Nge7 8. cxd4 d5 9. exd5 Nxd5 10. Qb3 Be6 11. Qxb7 1-0')
 
@@ -197,6 +200,42 @@ class Looking:
                 # as large as the window lets it: the height but for the players and the top, or the width, in a narrow one
                 room = height - 170 if width >= height else min(width - 24, height - 400)
                 self.assertGreaterEqual(right - left, min(room, width - 300 if width >= height else width), (name, found))
+
+    def test_the_board_has_most_of_a_small_window(self):
+        page = self.page
+        seen = """
+            const inside = (it, [left, right]) => { const r = it.getBoundingClientRect(); return r.left >= left - 1 && r.right <= right + 1; };
+            const { left, right, width, height } = document.getElementById('board').getBoundingClientRect();
+            const tools = document.querySelector('.tools').getBoundingClientRect();
+            const cut = [...document.querySelectorAll('main *')].filter((it) => it.checkVisibility() && !it.closest('.away') && !inside(it, [0, innerWidth]));
+            cut.push(...[...document.querySelectorAll('.tools > .tool')].filter((it) => !inside(it, [tools.left, tools.right])));
+            return { window: [innerWidth, innerHeight], board: [width, height], wide: document.documentElement.scrollWidth, cut: cut.map((it) => it.outerHTML.slice(0, 80)) };
+        """
+
+        def is_well(found):
+            least = max(192, 0.7 * min(found["window"]))
+            return min(found["board"]) >= least - 1 and abs(found["board"][0] - found["board"][1]) <= 1 and found["wide"] <= found["window"][0] and not found["cut"]
+
+        self.read()
+        for size in SMALL:
+            self.resize(*size)
+            page.until(lambda: is_well(page.script(seen)), f"{size}: {page.script(seen)}")
+
+    def test_the_box_for_a_promotion_is_at_its_square(self):
+        page = self.page
+        for width, height in [(1280, 800), (360, 740), (320, 480)]:
+            self.resize(width, height)
+            for fen, move in (("7k/P7/8/8/8/8/8/K7 w - - 0 1", ("a7", "a8")), ("k7/8/8/8/8/8/7p/K7 b - - 0 1", ("h2", "h1"))):
+                page.set_fen(fen)
+                page.squares(*move)
+                page.until(lambda: page.script("return document.getElementById('promotion').open"), "the promotion is asked for")
+                seen = page.script("""
+                    const [a, b] = [document.getElementById('promotion'), document.querySelector(`[data-square=${arguments[0]}]`)].map((it) => it.getBoundingClientRect());
+                    const gap = (from, to, low, high) => Math.max(0, low - to, from - high);
+                    return [a.left >= 0 && a.right <= innerWidth && a.top >= 0 && a.bottom <= innerHeight, a.width < 320, Math.max(gap(a.left, a.right, b.left, b.right), gap(a.top, a.bottom, b.top, b.bottom)) < 8];
+                """, move[1])
+                self.assertEqual(seen, [True] * 3, (width, move))
+                page.closes()
 
     def holds(self, found):
         """The current move lies within the list, and both it and the tools within the window."""

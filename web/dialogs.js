@@ -1,9 +1,9 @@
 // Dialogs and the menu: each is opened by a button with `data-opens`, and closed by Escape, its cross, or a click beside it.
 const by = (id) => document.getElementById(id);
 
-// The menu is at its button.
-const beside = (box, button) => {
-  const a = button.getBoundingClientRect();
+/** Puts an open box at what it is of, as the menu is at its button: above it if there is room, and in the window. */
+export const placeAt = (box, it) => {
+  const a = it.getBoundingClientRect();
   const b = box.getBoundingClientRect();
   box.style.left = `${Math.max(8, Math.min(a.right - b.width, innerWidth - b.width - 8))}px`;
   box.style.top = `${Math.max(8, Math.min(a.top - b.height - 4 > 8 ? a.top - b.height - 4 : a.bottom + 4, innerHeight - b.height - 8))}px`;
@@ -15,7 +15,7 @@ export const openDialog = (id, button = null) => {
     it.showModal();
     it.dispatchEvent(new Event('opened'));
   }
-  if (id === 'menu' && button) beside(it, button);
+  if (id === 'menu' && button) placeAt(it, button);
 };
 
 const isOutside = (box, { clientX: x, clientY: y }) => {

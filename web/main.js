@@ -2,7 +2,7 @@
 import { ask, module } from './ask.js';
 import { moveNow, points, positionChanged, positionDrawn, reply, toggleAnalysis } from './analysis.js';
 import { Board, man, named } from './board.js';
-import { dialogs, openDialog } from './dialogs.js';
+import { dialogs, openDialog, placeAt } from './dialogs.js';
 import { drawMoves, drawPlayers, drawStatus, drawTags, pathAt, saidHere, showComment } from './draw.js';
 import { editing } from './editor.js';
 import { choose, download, listAgain, read, readWhole, saveBack, showCollection } from './files.js';
@@ -79,6 +79,7 @@ const askPromotion = (moves) => {
     return button;
   }));
   box.showModal();
+  placeAt(box, view.squares[moves[0].slice(2, 4)]);
 };
 
 const turnRound = (isTurned) => {
