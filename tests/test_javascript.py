@@ -105,6 +105,8 @@ class ThePackage(unittest.TestCase):
         # (in the clone the module is the page's)
         copy = shutil.copytree(PACKAGE, f"{self.folder}/js")
         shutil.copy(f"{runs.TOP}/web/jatshegi.wasm", f"{copy}/src")
+        with tarfile.open(packed(self.folder)) as tar, open(f"{copy}/src/module.js", "wb") as file:
+            file.write(tar.extractfile("package/src/module.js").read())
         for name in ("LICENSE-APACHE", "LICENSE-MIT"):
             shutil.copy(f"{runs.TOP}/{name}", copy)
         ran = called("npm", "pack", "--json", "--dry-run", cwd=copy, env={"HOME": self.folder})
@@ -139,14 +141,43 @@ class ThePackage(unittest.TestCase):
                 self.assertEqual(ran.stderr, "")
                 self.assertEqual([it.rstrip() for it in ran.stdout.rstrip().split("\n")], said)
 
-    def test_its_types(self):
-        if not shutil.which("tsc"):
-            self.skipTest("tsc is not on the path (Debian's node-typescript)")
+    def unpacked(self):
+        """A project's folder with the package in it."""
         with tarfile.open(packed(self.folder)) as tar:
             tar.extractall(self.folder)
         os.mkdir(f"{self.folder}/node_modules")
         os.rename(f"{self.folder}/package", f"{self.folder}/node_modules/jatshegi")
-        shutil.copy(f"{PACKAGE}/test/use.mts", self.folder)
+        return self.folder
+
+    def test_by_require(self):
+        numbers = [int(it) for it in re.findall(r"\d+", called("node", "--version").stdout)]
+        if numbers < [20, 19, 0] or [22] <= numbers < [22, 12, 0]:
+            self.skipTest(f"this is Node {'.'.join(map(str, numbers))}, whose require reads no ES modules")
+        for name in ("jatshegi", "jatshegi/inline"):
+            ran = called("node", "-e", f"console.log(new (require('{name}').Chess)().moves().length)", cwd=self.unpacked() if name == "jatshegi" else self.folder)
+            self.assertEqual((ran.stdout, ran.stderr), ("20\n", ""))
+
+    def test_by_a_bundler(self):
+        """Debian's esbuild puts a program and the package in one file, in each form; the file says the same by Node, which has no package beside it."""
+        if not shutil.which("esbuild"):
+            self.skipTest("esbuild is not on the path")
+        project = self.unpacked()
+        ways = {"import { Chess } from 'jatshegi/inline';": ["--platform=browser"], "import { Chess } from 'jatshegi';": ["--platform=browser", "--conditions=worker"], "const { Chess } = require('jatshegi');": ["--platform=browser"],
+                "import { Chess, start } from 'jatshegi/core'; import wasm from 'jatshegi/jatshegi.wasm'; start(wasm);": ["--platform=browser", "--loader:.wasm=binary"]}
+        for first, words in ways.items():
+            with open(f"{project}/program.js", "w", encoding="utf-8") as file:
+                file.write(f"{first}\nconst chess = new Chess();\nchess.move('e4');\nconsole.log(chess.fen());\n")
+            for form in ("iife", "cjs", "esm"):
+                with self.subTest(first=first, form=form), tempfile.TemporaryDirectory() as alone:
+                    ran = called("esbuild", "program.js", "--bundle", "--target=es2020", f"--format={form}", f"--outfile={alone}/bundle.{'mjs' if form == 'esm' else 'cjs'}", "--log-level=warning", *words, cwd=project)
+                    self.assertEqual((ran.returncode, ran.stderr), (0, ""))
+                    ran = called("node", *os.listdir(alone), cwd=alone)
+                    self.assertEqual((ran.stdout, ran.stderr), ("rnbqkbnr/pppppppp/8/8/4P3/8/PPPP1PPP/RNBQKBNR b KQkq e3 0 1\n", ""))
+
+    def test_its_types(self):
+        if not shutil.which("tsc"):
+            self.skipTest("tsc is not on the path (Debian's node-typescript)")
+        shutil.copy(f"{PACKAGE}/test/use.mts", self.unpacked())
         for ways in (["node16", "node16"], ["es2022", "node"]):
             words = ["--noEmit", "--strict", "--target", "es2022", "--lib", "es2022,dom,dom.iterable", "--module", ways[0], "--moduleResolution", ways[1]]
             ran = called("tsc", *words, "use.mts", cwd=self.folder)
@@ -166,7 +197,7 @@ class ThePackage(unittest.TestCase):
 class InBrowsers(unittest.TestCase):
     """The package, unpacked, in a page of another: the same answers as by Node."""
 
-    def answers(self, new_browser):
+    def browser(self, new_browser):
         # (a browser writes to its folder until it has ended, so that goes after it)
         folder = tempfile.mkdtemp()
         self.addCleanup(shutil.rmtree, folder, ignore_errors=True)
@@ -180,7 +211,26 @@ class InBrowsers(unittest.TestCase):
         browser = new_browser(folder)
         self.addCleanup(browser.quit)
         browser.get(f"http://127.0.0.1:{server.server_port}/index.html")
-        return browser.execute_async_script("""
+        return folder, browser
+
+    def assert_hears(self, new_browser):
+        """A worker with the package answers a message that is posted as soon as there is a worker."""
+        folder, browser = self.browser(new_browser)
+        with open(f"{folder}/worker.js", "w", encoding="utf-8") as file:
+            file.write("import { Chess } from '/package/src/inline.js';\nonmessage = ({ data }) => postMessage(new Chess(data).moves().length);\n")
+        self.assertEqual(browser.execute_async_script("""
+            const done = arguments[0];
+            const it = new Worker('/worker.js', { type: 'module' });
+            it.onmessage = ({ data }) => done(data);
+            it.onerror = (event) => done(event.message);
+            it.postMessage('8/8/8/8/8/8/8/K6k w - - 0 1');
+            setTimeout(() => done('no answer'), 60000);
+        """), 3)
+        # (and so does the page itself)
+        self.assertEqual(browser.execute_async_script("const done = arguments[0]; import('/package/src/inline.js').then(({ Chess }) => done(new Chess().moves().length), (error) => done(String(error)))"), 20)
+
+    def answers(self, new_browser):
+        return self.browser(new_browser)[1].execute_async_script("""
             const done = arguments[0];
             Promise.all([import('/package/src/index.js'), import('/anywhere.js')]).then(async ([it, { default: all }]) => done(await all(it))).catch((error) => done(String(error)));
         """)
@@ -198,12 +248,14 @@ class InBrowsers(unittest.TestCase):
     def test_in_chromium(self):
         test_web.wants_browser()
         self.assert_same(test_web.new_browser)
+        self.assert_hears(test_web.new_browser)
 
     def test_in_firefox(self):
         test_web.wants_browser()
         if not shutil.which("firefox-esr"):
             self.skipTest("firefox-esr is not installed")
         self.assert_same(firefox.Firefox)
+        self.assert_hears(firefox.Firefox)
 
 
 if __name__ == "__main__":

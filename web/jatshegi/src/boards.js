@@ -38,7 +38,7 @@ export const start = (source) => {
 };
 
 export const theMemory = () => {
-  if (!memory) throw new ChessError('Module', 'the module has not been begun: await start(bytes) first');
+  if (!memory) throw new ChessError('Module', 'the module has not been begun: call start(bytes) first');
   return memory;
 };
 
@@ -67,7 +67,7 @@ export const engines = { take: () => taken(ENGINE), give: giveBack };
 const release = (kept) => {
   const { session } = kept;
   live.delete(kept);
-  kept.session = null;
+  Object.assign(kept, { session: null, spelt: null });
   if (session) giveBack(session);
 };
 
@@ -119,11 +119,11 @@ const acquire = (heap) => {
 };
 
 /**
- * A new board, which goes with its owner. `least` is how much memory it has at least, by its place among the sizes: where there are few boards, they may begin
+ * A new board, which goes with its owner; what a caller knows of its position, `spelt`, is null once that may be another. `least` is how much memory it has at least, by its place among the sizes: where there are few boards, they may begin
  * with much, and seldom go into more.
  */
 export const keep = (owner, least = 0) => {
-  const kept = { session: null, away: { text: FRESH, path: '-' }, least, heap: least, weight: 0, stays: false, version: 0 };
+  const kept = { session: null, away: { text: FRESH, path: '-' }, least, heap: least, weight: 0, stays: false, version: 0, spelt: null };
   gone.register(owner, kept);
   return kept;
 };
@@ -195,7 +195,7 @@ const refit = (kept, cost) => {
 /** The board has the game at the start of a text: `{status, used}`. Where the status is a fault's, or there is none, it is as it was; want of memory is thrown. */
 export const begin = (kept, text) => {
   const found = settle(kept, { text, path: '-' });
-  if (found.status === OK) kept.version++;
+  if (found.status === OK) Object.assign(kept, { version: kept.version + 1, spelt: null });
   return found;
 };
 
@@ -215,12 +215,18 @@ export const on = (kept, action, cost = 0) => {
   }
 };
 
+// The lines that only ask; any other may be about another position then.
+const ASKS = /^(fen|path|best \d+)$/;
+
 /** The board's answer to a line; a refusal for want of memory is thrown. */
-export const line = (kept, text, cost = 0) => on(kept, (session) => {
-  const answer = session.line(text);
-  if (answer === 'refused 5 Memory') throw noMemory();
-  return answer;
-}, cost);
+export const line = (kept, text, cost = 0) => {
+  if (!ASKS.test(text)) kept.spelt = null;
+  return on(kept, (session) => {
+    const answer = session.line(text);
+    if (answer === 'refused 5 Memory') throw noMemory();
+    return answer;
+  }, cost);
+};
 
 /** Where in a text a byte is: its line and column from 1, and how many bytes are before it. */
 export const placeIn = (bytes, at, first = { line: 1, byte: 0 }) => {

@@ -28,42 +28,49 @@ export const validateFen = (fen) => {
   return { ok, code: error.code, error: error.message };
 };
 
-export class Chess {
-  #kept;
-  // A placement that is no position yet, as `clear` and `put` leave it: `{fen, error}`.
-  #draft = null;
-  #tree = { version: -1 };
+const spelt = (fen) => {
+  const fields = fen.split(' ');
+  return { fen, fields, men: menOf(fields[0]) };
+};
 
+export class Chess {
+  // (no private fields: what wraps objects in proxies, as frameworks for pages do, can't call methods that read those)
   constructor(fen = DEFAULT_POSITION, options = {}) {
     only(options);
-    this.#kept = keep(this);
+    let kept = null;
+    // A function, since such proxies leave functions as they are. It owns the board, which goes once no object has it.
+    this._own = () => kept;
+    kept = keep(this._own);
+    // A placement that is no position yet, as `clear` and `put` leave it: `{fen, error}`.
+    this._draft = null;
+    this._tree = { version: -1 };
     if (fen !== DEFAULT_POSITION) this.load(fen);
   }
 
   // ---- Lines of the board.
 
-  #position() {
-    if (this.#draft) throw this.#draft.error;
-    return this.#kept;
+  _position() {
+    if (this._draft) throw this._draft.error;
+    return this._own();
   }
 
   // The board's answer, which may be none of the refusals.
-  #ask(text, cost) {
-    const answer = line(this.#position(), text, cost);
+  _ask(text, cost) {
+    const answer = line(this._position(), text, cost);
     if (answer.startsWith('refused ')) throw refusal(answer, text);
     return answer;
   }
 
-  #change(text) {
-    this.#ask(text, costOf(text));
-    this.#kept.version++;
+  _change(text) {
+    this._ask(text, costOf(text));
+    this._own().version++;
   }
 
   /** The board's answer to a line as `chess board` writes it, without its line feed; refusals are answers here. */
   line(text) {
     encode(text);
     if (text.includes('\n')) throw new ChessError('Text', 'more than one line');
-    const kept = this.#position();
+    const kept = this._position();
     kept.version++;
     try {
       return shown(line(kept, text, costOf(text)));
@@ -76,34 +83,36 @@ export class Chess {
   // ---- Positions.
 
   fen() {
-    return this.#draft?.fen ?? this.#ask('fen');
+    return this._spelt().fen;
   }
 
-  #fields() {
-    return this.fen().split(' ');
+  // The position's FEN with its fields and men, `{fen, fields, men}`, which stays until the position is another.
+  _spelt() {
+    if (this._draft) return spelt(this._draft.fen);
+    return (this._own().spelt ??= spelt(this._ask('fen')));
   }
 
   // The board has the game of a text; where that is none, nothing has changed.
-  #take(text) {
-    const { status, used } = begin(this.#kept, text);
+  _take(text) {
+    const { status, used } = begin(this._own(), text);
     if (status !== OK) throw faultOf(status, placeIn(text, used));
   }
 
-  #begin(fen, keepsHeaders) {
+  _begin(fen, keepsHeaders) {
     const { ok, answer } = tried(fen);
     if (!ok) throw refusal(answer, fen);
     const text = toBytes(beside().pgn());
-    if (keepsHeaders) line(this.#kept, `set ${fen}`);
-    else this.#take(text);
-    this.#kept.version++;
-    this.#draft = null;
+    if (keepsHeaders) line(this._own(), `set ${fen}`);
+    else this._take(text);
+    this._own().version++;
+    this._draft = null;
   }
 
   /** Begins a new game with the position of a FEN; where it is none, nothing has changed. */
   load(fen, options = {}) {
     const { preserveHeaders } = only(options, 'preserveHeaders');
     encode(fen);
-    this.#begin(fen, preserveHeaders);
+    this._begin(fen, preserveHeaders);
   }
 
   reset(options = {}) {
@@ -111,21 +120,21 @@ export class Chess {
   }
 
   turn() {
-    return this.#fields()[1];
+    return this._spelt().fields[1];
   }
 
   moveNumber() {
-    return Number(this.#fields()[5]);
+    return Number(this._spelt().fields[5]);
   }
 
   get(square) {
     squareOf(square);
-    return pieceOf(menOf(this.#fields()[0]).get(square));
+    return pieceOf(this._spelt().men.get(square));
   }
 
   /** Ranks 8 to 1, in each files a to h: `{square, type, color}` or null. */
   board() {
-    const men = menOf(this.#fields()[0]);
+    const men = this._spelt().men;
     return [8, 7, 6, 5, 4, 3, 2, 1].map((rank) => [...'abcdefgh'].map((file) => {
       const square = file + rank;
       return men.has(square) ? { square, ...pieceOf(men.get(square)) } : null;
@@ -140,7 +149,7 @@ export class Chess {
 
   findPiece({ type, color }) {
     const letter = color === 'w' ? type.toUpperCase() : type;
-    const men = menOf(this.#fields()[0]);
+    const men = this._spelt().men;
     return NAMES.filter((it) => men.get(it) === letter);
   }
 
@@ -149,48 +158,48 @@ export class Chess {
   }
 
   getCastlingRights(color) {
-    const rights = this.#fields()[2];
+    const rights = this._spelt().fields[2];
     const spelt = colorOf(color) === 'w' ? 'KQ' : 'kq';
     return { k: rights.includes(spelt[0]), q: rights.includes(spelt[1]) };
   }
 
   // ---- Placing men. What is no position yet is a draft: each call that needs a position throws why it is none.
 
-  #edit(change) {
-    if (!this.#draft && this.root().children.length) throw new ChessError('HasMoves', 'men are placed before the first move: load a FEN, or clear, first');
-    const fields = this.#fields();
-    const men = menOf(fields[0]);
+  _edit(change) {
+    if (!this._draft && this.root().children.length) throw new ChessError('HasMoves', 'men are placed before the first move: load a FEN, or clear, first');
+    const now = this._spelt();
+    const [fields, men] = [[...now.fields], new Map(now.men)];
     change(men, fields);
     const fen = [placedOf(men), fields[1], fields[2], '-', fields[4], fields[5]].join(' ');
     const { ok, answer } = tried(fen);
-    if (ok) this.#begin(fen, true);
-    else this.#draft = { fen, error: refusal(answer, fen) };
+    if (ok) this._begin(fen, true);
+    else this._draft = { fen, error: refusal(answer, fen) };
   }
 
   clear(options = {}) {
     const { preserveHeaders } = only(options, 'preserveHeaders');
     this.reset({ preserveHeaders });
-    this.#draft = { fen: EMPTY, error: refusal('refused 3 Kings', EMPTY) };
+    this._draft = { fen: EMPTY, error: refusal('refused 3 Kings', EMPTY) };
   }
 
   put({ type, color }, square) {
     squareOf(square);
     if (typeof type !== 'string' || !/^[pnbrqkPNBRQK]$/.test(type)) throw new ChessError('Piece', `no piece: ${String(type)}`);
     const letter = colorOf(color) === 'w' ? type.toUpperCase() : type.toLowerCase();
-    this.#edit((men) => men.set(square, letter));
+    this._edit((men) => men.set(square, letter));
     return true;
   }
 
   remove(square) {
     const there = this.get(square);
-    if (there) this.#edit((men) => men.delete(square));
+    if (there) this._edit((men) => men.delete(square));
     return there;
   }
 
   setTurn(color) {
     colorOf(color);
     if (this.turn() === color) return false;
-    this.#edit((men, fields) => {
+    this._edit((men, fields) => {
       fields[1] = color;
     });
     return true;
@@ -199,7 +208,7 @@ export class Chess {
   /** Whether the rights then are those. The module drops one whose king or rook isn't at home. */
   setCastlingRights(color, rights) {
     const all = { ...this.getCastlingRights(color), ...rights };
-    this.#edit((men, fields) => {
+    this._edit((men, fields) => {
       const own = color === 'w' ? 'KQ' : 'kq';
       const rest = [...fields[2]].filter((it) => it !== '-' && !own.includes(it));
       const held = [...rest, ...(all.k ? [own[0]] : []), ...(all.q ? [own[1]] : [])];
@@ -213,18 +222,18 @@ export class Chess {
 
   moves({ verbose = false, square, piece } = {}) {
     if (square !== undefined) squareOf(square);
-    const men = piece === undefined ? null : menOf(this.#fields()[0]);
+    const men = piece === undefined ? null : this._spelt().men;
     const wants = (lan) => (square === undefined || lan.startsWith(square)) && (!men || men.get(lan.slice(0, 2)).toLowerCase() === piece);
-    return verbose ? movesOf(this.fen(), this.lans().filter(wants)) : on(this.#position(), (session) => session.sans(wants));
+    return verbose ? movesOf(this.fen(), this.lans().filter(wants)) : on(this._position(), (session) => session.sans(wants));
   }
 
   /** The legal moves in long algebraic notation, by squares. */
   lans() {
-    return on(this.#position(), (session) => session.moves());
+    return on(this._position(), (session) => session.moves());
   }
 
   // The legal move that a text or an object names, in long algebraic notation; else why it names none.
-  #named(move) {
+  _named(move) {
     let texts = [move];
     if (typeof move === 'object' && move) {
       const pair = `${squareOf(move.from)}${squareOf(move.to)}`;
@@ -235,7 +244,7 @@ export class Chess {
     let why = '';
     for (const text of texts) {
       encode(text);
-      const found = on(this.#position(), (session) => ({ lan: session.read(text), why: session.why }));
+      const found = on(this._position(), (session) => ({ lan: session.read(text), why: session.why }));
       if (found.lan !== null) return found.lan;
       why ||= found.why;
     }
@@ -245,16 +254,16 @@ export class Chess {
   /** Makes the move: along a node that has it, else as a further variation. */
   move(move, options = {}) {
     only(options, 'strict');
-    const lan = this.#named(move);
+    const lan = this._named(move);
     const [made] = movesOf(this.fen(), [lan]);
-    this.#change(`play ${lan}`);
+    this._change(`play ${lan}`);
     return made;
   }
 
   /** Whether a text or an object names a legal move. */
   isLegal(move) {
     try {
-      return Boolean(this.#named(move));
+      return Boolean(this._named(move));
     } catch (error) {
       if (error instanceof ChessError && ['Form', 'Illegal', 'Ambiguous', 'Square'].includes(error.code)) return false;
       throw error;
@@ -266,56 +275,56 @@ export class Chess {
     const node = this.node();
     if (node.isRoot) return null;
     const [undone] = lineOf(this.fenAt(node.parent), [node.san]);
-    this.#change('delete');
+    this._change('delete');
     return undone;
   }
 
   history({ verbose = false } = {}) {
     const sans = this.node().line().map(({ san }) => san);
-    return verbose ? lineOf(this.#startFen(), sans) : sans;
+    return verbose ? lineOf(this._startFen(), sans) : sans;
   }
 
   // The FEN of the root.
-  #startFen() {
-    return this.#at('-', () => this.#ask('fen'));
+  _startFen() {
+    return this._at('-', () => this._ask('fen'));
   }
 
   // What is asked at another node, `path` if it isn't gone to.
-  #at(path, asks) {
-    const here = this.#ask('path');
+  _at(path, asks) {
+    const here = this._ask('path');
     try {
-      this.#go(path);
+      this._go(path);
       return asks();
     } finally {
-      this.#go(here);
+      this._go(here);
     }
   }
 
-  #go(path) {
-    this.#ask(path === '-' ? 'start' : `goto ${path}`);
+  _go(path) {
+    this._ask(path === '-' ? 'start' : `goto ${path}`);
   }
 
   // ---- The game's status.
 
   /** `mate`, `stalemate`, `dead`, `fivefold`, `seventyfive` or `play`. */
   status() {
-    return on(this.#position(), (session) => session.status());
+    return on(this._position(), (session) => session.status());
   }
 
   /** The draws that may be claimed, `threefold` and `fifty`; with a move, those that may be claimed with it. */
   claims(move) {
-    const lan = move === undefined ? undefined : this.#named(move);
-    return on(this.#position(), (session) => session.claims(lan));
+    const lan = move === undefined ? undefined : this._named(move);
+    return on(this._position(), (session) => session.claims(lan));
   }
 
   /** How often the position has come up. */
   repetitions() {
-    return on(this.#position(), (session) => session.repetitions());
+    return on(this._position(), (session) => session.repetitions());
   }
 
   /** The squares of the men that give check. */
   checks() {
-    return on(this.#position(), (session) => session.checks());
+    return on(this._position(), (session) => session.checks());
   }
 
   isCheck() {
@@ -360,7 +369,7 @@ export class Chess {
   /** How many men of a colour attack each square, by its name. */
   counts(color) {
     const place = 'wb'.indexOf(colorOf(color));
-    const counts = on(this.#position(), (session) => session.counts())[place];
+    const counts = on(this._position(), (session) => session.counts())[place];
     return Object.fromEntries(NAMES.map((name, i) => [name, counts[i]]));
   }
 
@@ -371,17 +380,17 @@ export class Chess {
   attackers(square, color = this.turn()) {
     squareOf(square);
     colorOf(color);
-    return on(this.#position(), (session) => session.attackers('wb'.indexOf(color), square));
+    return on(this._position(), (session) => session.attackers('wb'.indexOf(color), square));
   }
 
   /** Centipawns, for White. */
   evaluate() {
-    return on(this.#position(), (session) => session.evaluation());
+    return on(this._position(), (session) => session.evaluation());
   }
 
   /** The first move of greatest minimax value, 1 to 16 plies deep: `{move, score: {cp} or {mate}}`; null where no move is legal. */
   best(depth) {
-    const answer = this.#ask(`best ${depth}`);
+    const answer = this._ask(`best ${depth}`);
     if (answer === 'none') return null;
     const [lan, unit, value] = answer.split(' ');
     return { move: movesOf(this.fen(), [lan])[0], score: { [unit]: Number(value) } };
@@ -389,29 +398,29 @@ export class Chess {
 
   /** The same depth after depth, while other things go on: an async iterator of `{depth, move, score}`. `signal` ends it. */
   search(depth, { signal } = {}) {
-    const lans = on(this.#position(), (session) => session.lineToHere());
-    return search({ start: this.#startFen(), lans, fen: this.fen(), depth, signal });
+    const lans = on(this._position(), (session) => session.lineToHere());
+    return search({ start: this._startFen(), lans, fen: this.fen(), depth, signal });
   }
 
   // ---- The tree.
 
   /** The root of the game's tree as it now is. */
   root() {
-    const kept = this.#position();
-    if (this.#tree.version !== kept.version) this.#tree = { version: kept.version, root: treeOf(on(kept, (session) => session.pgn())) };
-    return this.#tree.root;
+    const kept = this._position();
+    if (this._tree.version !== kept.version) this._tree = { version: kept.version, root: treeOf(on(kept, (session) => session.pgn())) };
+    return this._tree.root;
   }
 
   /** The node at the cursor. */
   node() {
-    const path = this.#ask('path');
+    const path = this._ask('path');
     return path === '-' ? this.root() : path.split('.').reduce((node, i) => node.children[i], this.root());
   }
 
   /** To a node, or to a path as `node.path` has it. */
   goto(node) {
     if (!(node instanceof Node)) {
-      this.#go(node);
+      this._go(node);
       return;
     }
     const sans = node.line().map(({ san }) => san);
@@ -421,12 +430,12 @@ export class Chess {
       return it?.san === sans[at];
     });
     if (!found) throw new ChessError('NoSuch', `the game has no such node any more: ${sans.join(' ')}`);
-    this.#go(node.path);
+    this._go(node.path);
   }
 
   /** The FEN at a node. */
   fenAt(node) {
-    return this.#at(this.#ask('path'), () => {
+    return this._at(this._ask('path'), () => {
       this.goto(node);
       return this.fen();
     });
@@ -434,46 +443,46 @@ export class Chess {
 
   /** Steps back; whether it did. The move stays in the game. */
   back() {
-    if (this.#ask('path') === '-') return false;
-    this.#ask('back');
+    if (this._ask('path') === '-') return false;
+    this._ask('back');
     return true;
   }
 
   /** Steps to a child, from 0; whether there is one. */
   forward(child = 0) {
-    const answer = line(this.#position(), `step ${child}`);
+    const answer = line(this._position(), `step ${child}`);
     if (answer === 'refused 1 NoSuch') return false;
     if (answer !== 'ok') throw refusal(answer, `step ${child}`);
     return true;
   }
 
   toStart() {
-    this.#ask('start');
+    this._ask('start');
   }
 
   toEnd() {
-    this.#ask('end');
+    this._ask('end');
   }
 
   /** The node at the cursor becomes the first of those beside it. */
   promoteVariation() {
-    this.#change('promote');
+    this._change('promote');
   }
 
   /** Takes out the node at the cursor and all below it. */
   deleteVariation() {
-    this.#change('delete');
+    this._change('delete');
   }
 
   addNag(nag) {
-    this.#change(`nag ${nag}`);
+    this._change(`nag ${nag}`);
   }
 
   /** Takes the annotation numbers of the move at the cursor out. */
   clearNags() {
-    const status = on(this.#kept, (session) => session.clearNags());
+    const status = on(this._own(), (session) => session.clearNags());
     if (status === AT_ROOT) throw refusal('refused 2 AtRoot', 'clearNags');
-    this.#kept.version++;
+    this._own().version++;
   }
 
   getNags() {
@@ -486,7 +495,7 @@ export class Chess {
 
   setComment(text) {
     encode(text);
-    this.#change(`comment ${text}`);
+    this._change(`comment ${text}`);
   }
 
   removeComment() {
@@ -504,7 +513,7 @@ export class Chess {
   removeComments() {
     const all = this.getComments();
     const here = this.node();
-    for (const it of [this.root(), ...here.line()].filter(({ comment }) => comment)) this.#at(it.path, () => this.#change('comment'));
+    for (const it of [this.root(), ...here.line()].filter(({ comment }) => comment)) this._at(it.path, () => this._change('comment'));
     return all;
   }
 
@@ -519,7 +528,7 @@ export class Chess {
 
   /** Its bytes, as `chess pgn` writes them. */
   pgnBytes() {
-    return on(this.#position(), (session) => session.pgnBytes());
+    return on(this._position(), (session) => session.pgnBytes());
   }
 
   /** The game of a text comes on the board, the cursor at the end of its main line. Where the text isn't one game, nothing has changed. */
@@ -535,8 +544,8 @@ export class Chess {
     if (next.status === MEMORY) throw noMemory();
     if (next.status === OK) throw new ChessError('Many', 'more than one game: read them by games() or readGames()', { place: placeIn(bytes, one.used) });
     if (next.status !== NONE) throw faultOf(next.status, placeIn(bytes, one.used + next.used));
-    this.#take(bytes);
-    this.#draft = null;
+    this._take(bytes);
+    this._draft = null;
     this.toEnd();
   }
 
@@ -544,20 +553,20 @@ export class Chess {
   clone() {
     const other = new Chess();
     other.loadPgn(this.pgnBytes());
-    other.goto(this.#ask('path'));
+    other.goto(this._ask('path'));
     return other;
   }
 
   /** The tags of the game, in the order of its text. */
   getHeaders() {
-    return Object.fromEntries(tagsOf(on(this.#kept, (session) => session.pgn())).tags);
+    return Object.fromEntries(tagsOf(on(this._own(), (session) => session.pgn())).tags);
   }
 
-  #heading(name, action, cost = 0) {
-    const status = on(this.#kept, action, cost);
-    this.#kept.version++;
+  _heading(name, action, cost = 0) {
+    const status = on(this._own(), action, cost);
+    this._own().version++;
     if (status === OK) return;
-    this.#kept.version--;
+    this._own().version--;
     const says = {
       [ARGUMENT]: ['Result', 'no result, which is *, 1-0, 0-1 or 1/2-1/2'],
       [BAD_NAME]: ['TagName', 'no name of a tag'],
@@ -570,8 +579,8 @@ export class Chess {
 
   setHeader(name, value) {
     const [first, second] = [encode(name), encode(value)];
-    if (name === 'Result') this.#heading(value, (session) => session.setResult(MARKERS.includes(value) ? MARKERS.indexOf(value) : MARKERS.length));
-    else this.#heading(name, (session) => session.setTag(first, second), costOf(name + value));
+    if (name === 'Result') this._heading(value, (session) => session.setResult(MARKERS.includes(value) ? MARKERS.indexOf(value) : MARKERS.length));
+    else this._heading(name, (session) => session.setTag(first, second), costOf(name + value));
     return this.getHeaders();
   }
 
@@ -579,7 +588,7 @@ export class Chess {
   removeHeader(name) {
     const before = this.getHeaders()[name];
     const bytes = encode(name);
-    this.#heading(name, (session) => (name === 'Result' ? session.setResult(0) : session.clearTag(bytes)));
+    this._heading(name, (session) => (name === 'Result' ? session.setResult(0) : session.clearTag(bytes)));
     return this.getHeaders()[name] !== before;
   }
 

@@ -1,4 +1,4 @@
-// All of the package without the module: `await start(bytes)` begins it.
+// All of the package without the module: `start(bytes)` begins it.
 export { Chess, DEFAULT_POSITION, validateFen } from './chess.js';
 export { ChessError } from './errors.js';
 export { Node } from './export.js';

@@ -68,9 +68,8 @@ export const salvaged = (bytes) => {
 
 /** A game that was read. */
 export class Game {
-  #tree = null;
-
   constructor(bytes, index, place, length) {
+    this._tree = null;
     this.bytes = bytes;
     this.index = index;
     this.place = place;
@@ -93,7 +92,7 @@ export class Game {
 
   /** The root of its tree. */
   root() {
-    return (this.#tree ??= treeOf(fromBytes(this.bytes)));
+    return (this._tree ??= treeOf(fromBytes(this.bytes)));
   }
 
   /** The texts of the main line's moves. */

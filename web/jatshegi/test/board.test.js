@@ -357,6 +357,50 @@ test('a board that begins anew has all its memory again', () => {
   assert.match(session.pgn(), /\n\n\*\n\n$/);
 });
 
+test('a board is used through a proxy, and by a copy of its object', () => {
+  const deep = (it) => new Proxy(it, { get: (target, name, self) => {
+    const found = Reflect.get(target, name, self);
+    // (as such frameworks do: of objects, lists and maps)
+    return ['Object', 'Array', 'Map'].includes(Object.prototype.toString.call(found).slice(8, -1)) && typeof found === 'object' ? deep(found) : found;
+  } });
+  const chess = new Chess();
+  const proxy = deep(chess);
+  proxy.move('e4');
+  proxy.move('e5');
+  assert.equal(proxy.fen(), chess.fen());
+  proxy.goto(proxy.root().children[0]);
+  assert.deepEqual([proxy.turn(), proxy.get('e4'), proxy.history(), proxy.undo().san], ['b', { type: 'p', color: 'w' }, ['e4'], 'e4']);
+  proxy.clear();
+  refuses('Kings', () => proxy.moves());
+  proxy.loadPgn('1. d4 d5 *');
+  const copy = Object.assign(Object.create(Object.getPrototypeOf(proxy)), proxy);
+  assert.equal(copy.pgn(), proxy.pgn());
+  const [game] = games('1. e4 *');
+  assert.deepEqual(deep(game).moves(), ['e4']);
+});
+
+test('what is known of a position goes with it', () => {
+  const chess = new Chess();
+  const seen = () => [chess.fen(), chess.turn(), chess.moveNumber(), chess.get('e2'), chess.get('e4'), chess.getCastlingRights('w').k];
+  const fresh = () => {
+    const other = new Chess(chess.fen());
+    return [other.fen(), other.turn(), other.moveNumber(), other.get('e2'), other.get('e4'), other.getCastlingRights('w').k];
+  };
+  const steps = [
+    () => chess.move('e4'), () => chess.move('e5'), () => chess.back(), () => chess.toStart(), () => chess.forward(), () => chess.toEnd(), () => chess.goto('0'), () => chess.undo(), () => chess.line('play d4'),
+    () => chess.line('back'), () => chess.line(' set 4k3/8/8/8/8/8/4P3/4K3 w - - 0 9'), () => chess.put({ type: 'q', color: 'w' }, 'b3'), () => chess.setTurn('b'), () => chess.load('4k3/8/8/8/4p3/8/8/4K2R w K - 0 1'),
+    () => chess.fenAt('-'), () => chess.loadPgn('1. e4 *'), () => chess.reset(), () => chess.clear() ?? chess.reset(),
+  ];
+  for (const step of steps) {
+    step();
+    assert.deepEqual(seen(), fresh(), String(step));
+  }
+  // (what is answered isn't what is known)
+  chess.get('e2').type = 'q';
+  chess.board()[6][4].color = 'b';
+  assert.deepEqual(chess.get('e2'), { type: 'p', color: 'w' });
+});
+
 test('each exported name is one of the types', async () => {
   const { readFile } = await import('node:fs/promises');
   const types = await readFile(new URL('../core.d.ts', import.meta.url), 'utf-8');
@@ -364,7 +408,7 @@ test('each exported name is one of the types', async () => {
   assert.deepEqual(names.sort(), Object.keys(all).sort());
   for (const [name, declared] of [['Chess', Chess], ['Node', Node], ['Game', all.Game], ['Move', Move]]) {
     const body = new RegExp(`class ${name} \\{\\n([\\s\\S]*?)\\n\\}`).exec(types)[1];
-    const own = Object.getOwnPropertyNames(declared.prototype).filter((it) => it !== 'constructor' && it !== 'toJSON');
+    const own = Object.getOwnPropertyNames(declared.prototype).filter((it) => it !== 'constructor' && it !== 'toJSON' && !it.startsWith('_'));
     const said = new Set([...body.matchAll(/^ {2}(?:readonly )?(\w+)\??[(:<]/gm)].map(([, it]) => it));
     assert.deepEqual(own.filter((it) => !said.has(it)), [], name);
   }
