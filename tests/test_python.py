@@ -543,7 +543,7 @@ class Games(unittest.TestCase):
         game, sizes = b'[White "a"]\n\n1. e4 {' + b"word " * 20_000 + b"} *\n\n", iter(range(20))
         texts = pgn._Texts(b"", lambda count: game * (count // len(game)) if next(sizes, None) is not None else b"")
         count = most = 0
-        while texts.next():
+        while texts.next()[0]:
             count, most = count + 1, max(most, len(texts._data))
         self.assertGreater(count, 200)
         self.assertLess(most, 5 << 20)
@@ -1109,3 +1109,7 @@ class ThePackage(unittest.TestCase):
             words = [sys.executable, "-c", "import jatshegi; print(len(jatshegi.Board().legal_moves), jatshegi.__file__)"]
             ran = subprocess.run(words, cwd="/", env={**os.environ, "PYTHONPATH": f"{folder}/there"}, capture_output=True, text=True)
             self.assertEqual(ran.stdout.split(), ["20", f"{folder}/there/jatshegi/__init__.py"], ran.stderr)
+
+
+if __name__ == "__main__":
+    unittest.main()

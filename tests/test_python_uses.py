@@ -130,6 +130,78 @@ class Files(unittest.TestCase):
                 with opened as file:
                     self.assertEqual(self.names(file), ["Réti", "b"])
 
+    def opened(self, folder, text):
+        """A text as files that go back, and as files that don't."""
+        with open(f"{folder}/a.pgn", "wb") as file:
+            file.write(text.encode())
+        with open(f"{folder}/latin.pgn", "w", encoding="iso-8859-1") as file:
+            file.write(text)
+        with open(f"{folder}/crlf.pgn", "w", encoding="utf-8", newline="\r\n") as file:
+            file.write(text)
+        with open(f"{folder}/mixed.pgn", "w", encoding="utf-8", newline="") as file:
+            file.write(text.replace("\n", "\r\n", 1))
+        with gzip.open(f"{folder}/a.gz", "wb") as file:
+            file.write(text.encode())
+        with open(f"{folder}/sixteen.pgn", "w", encoding="utf-16") as file:
+            file.write(text)
+        back = [lambda: io.StringIO(text), lambda: io.BytesIO(text.encode()), lambda: open(f"{folder}/a.pgn", "rb"), lambda: open(f"{folder}/a.pgn", "rb", buffering=0)]
+        back += [lambda name=name, of=of: open(f"{folder}/{name}.pgn", encoding=of) for name, of in (("a", "utf-8"), ("latin", "iso-8859-1"), ("crlf", "utf-8"))]
+        stays = [lambda: open(f"{folder}/mixed.pgn", encoding="utf-8"), lambda: gzip.open(f"{folder}/a.gz", "rt", encoding="utf-8"), lambda: open(f"{folder}/sixteen.pgn", encoding="utf-16")]
+        return back, [lambda: gzip.open(f"{folder}/a.gz"), *stays]
+
+    def test_a_file_stands_where_the_next_game_begins(self):
+        """The index of a file, as python-chess's page makes it: places by `tell`, and games by `seek`."""
+        text = "".join(f'[White "n {number}"]\n[Black "\u00e9"]\n\n1. e4 {{{"word " * 400}}} *\n\n' for number in range(1200))
+        with tempfile.TemporaryDirectory() as folder:
+            back, stays = self.opened(folder, text)
+            for number, make in enumerate((*back, *stays)):
+                with make() as file, self.subTest(file=number):
+                    places, seen = [], []
+                    while True:
+                        place = file.tell() if make in back else 0
+                        headers = jatshegi.pgn.read_headers(file)
+                        if headers is None:
+                            break
+                        places.append(place)
+                        seen.append(headers["White"])
+                    self.assertEqual(seen, [f"n {it}" for it in range(1200)])
+                    for which in (700, 3, 1199, 0) if make in back else (0,):
+                        file.seek(places[which])
+                        found = [jatshegi.pgn.read_game(file) for _ in range(2)]
+                        self.assertEqual([it and it.headers["White"] for it in found], [f"n {which}", f"n {which + 1}" if which < 1199 else None])
+                        self.assertEqual(found[0].place, None if number in (8, 10) else places[which])
+                        self.assertEqual(copy.copy(found[0]).place, found[0].place)
+                    file.seek(0)
+                    self.assertEqual([it.headers["White"] for it in jatshegi.pgn.games(file)], seen)
+                    self.assertIsNone(jatshegi.pgn.read_game(file))
+
+    def test_games_and_read_game_go_on_after_one_another(self):
+        for file in (io.BytesIO(b"rubbish\n1. e4 * 1. d4 * 1. c4 * [A b] * [White \"z\"] *"), io.StringIO("rubbish\n1. e4 * 1. d4 * 1. c4 * [A b] * [White \"z\"] *")):
+            file.readline()
+            games = jatshegi.pgn.games(file)
+            self.assertEqual([next(games).place, jatshegi.pgn.read_game(file).place, next(games).place], [8, 15, 23])
+            games.close()
+            with self.assertRaises(jatshegi.InvalidGameError) as found:
+                jatshegi.pgn.read_game(file)
+            self.assertEqual((found.exception.place, file.tell()), (32 if isinstance(file, io.BytesIO) else 24, 40))
+            self.assertEqual([jatshegi.pgn.read_game(file).headers["White"], jatshegi.pgn.read_game(file)], ["z", None])
+        with tempfile.NamedTemporaryFile("w", suffix=".pgn") as file:
+            file.write("rubbish\nmore\n1. e4 *\n1. d4 *\n")
+            file.flush()
+            with open(file.name, encoding="utf-8") as opened:
+                for line in opened:
+                    if line == "more\n":
+                        break
+                # (where a file is gone through by its lines it can't tell where it stands)
+                self.assertEqual([game.next().san for game in jatshegi.pgn.games(opened)], ["e4", "d4"])
+        self.assertEqual([jatshegi.pgn.Game().place, jatshegi.pgn.Game.from_board(jatshegi.Board()).place, jatshegi.pgn.read_game("*").place], [0, None, 0])
+
+    def test_a_game_that_is_read_alone_is_saved(self):
+        for source in (b"1. e2-e4 e5 2. OO Nc6 *", "1. e2-e4 e5 2. OO Nc6 *", io.StringIO("1. e2-e4 e5 2. OO Nc6 *")):
+            repairs = []
+            game = jatshegi.pgn.read_game(source, repaired=repairs.append)
+            self.assertEqual((game.mainline_sans(), [it.name for it in repairs[0]]), (["e4", "e5"], ["Hyphen", "Castling", "Illegal"]))
+
     def test_the_standard_input(self):
         words = "import jatshegi; print(*(game.headers['White'].encode() for game in jatshegi.pgn.games('-')))"
         for data in (TEXT, gzip.compress(TEXT), b""):

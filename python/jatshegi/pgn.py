@@ -21,6 +21,7 @@ from __future__ import annotations
 import contextlib
 import ctypes
 import importlib
+import io
 import os
 import sys
 import threading
@@ -56,6 +57,8 @@ __all__ = [
 ]
 
 _T = TypeVar("_T")
+# What is called with the repairs of a game that was saved.
+_Repaired = Callable[[List["Repair"]], object]
 
 _FAULTS = [
     "these bytes are no token",
@@ -198,10 +201,10 @@ def _decoded(data: bytes, encoding: Optional[str]) -> Tuple[str, str]:
         return data.decode("iso-8859-1"), "iso-8859-1"
 
 
-def _game(data: bytes, encoding: Optional[str]) -> Game:
-    """The game of bytes in export form."""
+def _game(data: bytes, encoding: Optional[str], place: Optional[int] = None) -> Game:
+    """The game of bytes in export form, and its place in the input that it was read from."""
     game = Game.__new__(Game)
-    game._begin(data, encoding)
+    game._begin(data, encoding, place)
     return game
 
 
@@ -218,16 +221,16 @@ class Game(Node):
     1. Nf3 d5 (1... Nf6 {as often}) 1-0
     """
 
-    __slots__ = ("_data", "_edits", "_encoding", "_marker", "_nodes", "_said", "_tags", "_text")
+    __slots__ = ("_data", "_edits", "_encoding", "_marker", "_nodes", "_said", "_started", "_tags", "_text")
 
     def __init__(self, text: Union[str, bytes] = "*") -> None:
         """The first game of a text, as `read_game` has it; one without moves where no text is given. Raises `InvalidGameError`, also where no game is there."""
         if not isinstance(text, (str, bytes)):
             raise TypeError(f"a game is read from a text or bytes, and `headers` are set afterwards: {text!r}")
-        for data in _exports(_Texts(_bytes_of(text)), None):
-            self._begin(data, "utf-8" if isinstance(text, str) else None)
-            return
-        raise InvalidGameError(0, 6, "there is no game")
+        data, place = _Texts(_bytes_of(text)).next()
+        if data is None:
+            raise InvalidGameError(0, 6, "there is no game")
+        self._begin(data, "utf-8" if isinstance(text, str) else None, place)
 
     @classmethod
     def from_board(cls, board: Board) -> Game:
@@ -245,8 +248,9 @@ class Game(Node):
         return game
 
     # From bytes in export form. The tags and the tree are made out when they are asked for; so are the bytes and the text of a game that is edited.
-    def _begin(self, data: bytes, encoding: Optional[str]) -> None:
+    def _begin(self, data: bytes, encoding: Optional[str], place: Optional[int] = None) -> None:
         self._san = self._parent = None
+        self._started = place
         self._nags = ()
         self._edits: Optional[Edits] = None
         self._tags: Optional[Dict[str, str]] = None
@@ -365,6 +369,16 @@ class Game(Node):
         return self._encoding
 
     @property
+    def place(self) -> Optional[int]:
+        """Where the game begins in the bytes that it was read from; of an open file the position to which `file.seek(game.place)` leads, so that `read_game` reads
+        the game again. None of a game that wasn't read, and of a file of text whose positions can't be counted, as one with line ends of several kinds.
+
+        >>> [game.place for game in jatshegi.pgn.games(b"1. e4 * 1. d4 *")]
+        [0, 7]
+        """
+        return self._started
+
+    @property
     def start(self) -> Optional[str]:
         """The FEN of the position in which the game begins; None for the usual one."""
         return self._tags_now().get("FEN")
@@ -466,7 +480,7 @@ class Game(Node):
         return data
 
     def __reduce__(self) -> Tuple[Callable[..., Any], Tuple[Any, ...]]:
-        return _game, (bytes(self), self._encoding)
+        return _game, (bytes(self), self._encoding, self._started)
 
     def __repr__(self) -> str:
         return f"<Game {self.headers.get('White', '?')} - {self.headers.get('Black', '?')}, {self.result}>"
@@ -508,31 +522,14 @@ _DECIDED, _PIECE = 1_179_648, 1 << 21
 _PARTS_OF_A_MARK = (b"\xef", b"\xef\xbb")
 
 
-class _Pieces:
-    """The bytes of an open file, piece by piece."""
-
-    def __init__(self, file_of: Callable[[], Any]) -> None:
-        self._file_of = file_of
-        #: Whether the file has text.
-        self.is_text = False
-
-    def __call__(self, count: int) -> bytes:
-        data = self._file_of().read(count)
-        if not isinstance(data, (str, bytes)):
-            raise TypeError(f"a file of games has text or bytes: {data!r}")
-        self.is_text = isinstance(data, str)
-        return _bytes_of(data)
-
-
 class _Texts:
-    """The export forms of games, one after another: of some bytes, or of what is read piece by piece. As much of that is kept as decides the next game."""
+    """The export forms of games, one after another, and their places: of some bytes, or of what is read piece by piece. As much of that is kept as decides the
+    next game."""
 
-    def __init__(
-        self, data: bytes, read: Optional[Callable[[int], bytes]] = None, repaired: Optional[Callable[[List[Repair]], object]] = None
-    ) -> None:
-        self._data, self._read, self._repaired, self._lock = data, read, repaired, threading.Lock()
-        # Where the next game is looked for, and how many bytes came before those that are kept.
-        self._at = self._before = 0
+    def __init__(self, data: bytes, read: Optional[Callable[[int], bytes]] = None) -> None:
+        self._data, self._read, self._lock = data, read, threading.Lock()
+        # Where the next game is looked for, where the last one was, and how many bytes came before those that are kept.
+        self._at = self._last = self.before = 0
         # Room for an export form, and for repairs.
         self._room, self._repairs = (c_char * 16384)(), (c.CRepair * 64)()
 
@@ -543,7 +540,11 @@ class _Texts:
         piece = self._read(max(_PIECE, left))
         if not piece:
             self._read = None
-        self._data, self._before, self._at = self._data[self._at :] + piece, self._before + self._at, 0
+        self._data, self.before, self._at, self._last = self._data[self._at :] + piece, self.before + self._at, 0, 0
+
+    # The bytes that the last call has passed over.
+    def passed(self) -> bytes:
+        return self._data[self._last : self._at]
 
     # The address of the next game, and how many bytes are there.
     def _place(self) -> Tuple[int, int]:
@@ -551,12 +552,15 @@ class _Texts:
         assert address is not None
         return address + self._at, len(self._data) - self._at
 
-    def next(self) -> Optional[bytes]:
-        """The next game's; None where there are no more. Raises `InvalidGameError` for a game that can't be read; the call after it goes on after that game."""
+    def next(self, repaired: Optional[_Repaired] = None) -> Tuple[Optional[bytes], int]:
+        """The next game's, and its place; None where there are no more. Raises `InvalidGameError` for a game that can't be read; the call after it goes on after
+        that game. With `repaired` it is saved where it can be, and that is called with its repairs."""
         with self._lock:
-            return self._next()
+            self._last = self._at
+            game = self._next(repaired)
+            return game, self.before + self._last
 
-    def _next(self) -> Optional[bytes]:
+    def _next(self, repaired: Optional[_Repaired]) -> Optional[bytes]:
         while True:
             while self._read and (len(self._data) - self._at <= _DECIDED or self._data.endswith(_PARTS_OF_A_MARK)):
                 self._more()
@@ -569,7 +573,7 @@ class _Texts:
                 self._room = (c_char * (2 * count.value))()
                 continue
             if status != c.NO_GAME:
-                saved = self._saved() if self._repaired else None
+                saved = self._saved(repaired) if repaired else None
                 if saved is None:
                     raise self._passing(status, used.value)
                 if saved:
@@ -581,11 +585,10 @@ class _Texts:
             self._more()
 
     # The export form of a game that strict reading refuses, where it can be saved; then its repairs are passed on. No byte, where no game is there.
-    def _saved(self) -> Optional[bytes]:
-        assert self._repaired is not None
+    def _saved(self, repaired: _Repaired) -> Optional[bytes]:
         while True:
-            count, used, repaired = c_size_t(), c_size_t(), c_size_t()
-            places = self._room, len(self._room), byref(count), self._repairs, len(self._repairs), byref(repaired), byref(used)
+            count, used, number = c_size_t(), c_size_t(), c_size_t()
+            places = self._room, len(self._room), byref(count), self._repairs, len(self._repairs), byref(number), byref(used)
             status = c.lib.jatshegi_game_salvage(*self._place(), *places)
             if status == c.NO_MEMORY:
                 raise MemoryError("no memory for a game")
@@ -593,18 +596,18 @@ class _Texts:
                 return b""
             if status not in (c.OK, c.NO_ROOM):
                 return None
-            if status == c.OK and repaired.value <= len(self._repairs):
+            if status == c.OK and number.value <= len(self._repairs):
                 break
             self._room = (c_char * max(len(self._room), count.value))()
-            self._repairs = (c.CRepair * max(len(self._repairs), repaired.value))()
-        begin = self._before + self._at
+            self._repairs = (c.CRepair * max(len(self._repairs), number.value))()
+        begin = self.before + self._at
         self._at += used.value
-        self._repaired([Repair(begin + it.place, _REPAIRS[it.kind], it.length, it.written) for it in self._repairs[: repaired.value]])
+        repaired([Repair(begin + it.place, _REPAIRS[it.kind], it.length, it.written) for it in self._repairs[: number.value]])
         return ctypes.string_at(self._room, count.value)
 
     # What a status raises, once the bytes of a game that can't be read have been passed over.
     def _passing(self, status: int, used: int) -> Exception:
-        fault = _fault(status, self._before + self._at + used)
+        fault = _fault(status, self.before + self._at + used)
         while isinstance(fault, InvalidGameError):
             passed, (address, left) = c_size_t(), self._place()
             if c.lib.jatshegi_game_pass(address, left, byref(passed)):
@@ -616,11 +619,13 @@ class _Texts:
         return fault
 
 
-def _exports(texts: _Texts, bad: Optional[Callable[[InvalidGameError], object]]) -> Iterator[bytes]:
-    """The export forms of the games, in order."""
+def _games_of(
+    read: Callable[[], Tuple[Optional[bytes], Optional[int]]], bad: Optional[Callable[[InvalidGameError], object]]
+) -> Iterator[Tuple[bytes, Optional[int]]]:
+    """The games that a call reads, in order: their export forms and their places."""
     while True:
         try:
-            game = texts.next()
+            game, place = read()
         except InvalidGameError as fault:
             if bad is None:
                 raise
@@ -628,31 +633,115 @@ def _exports(texts: _Texts, bad: Optional[Callable[[InvalidGameError], object]])
             continue
         if game is None:
             return
-        yield game
+        yield game, place
 
 
 def _bytes_of(source: Union[str, bytes]) -> bytes:
     return source.encode("utf-8", "surrogateescape") if isinstance(source, str) else source
 
 
-# What is left of the files that `read_game` reads, and how they are read on.
-_FILES: "weakref.WeakKeyDictionary[Any, Tuple[_Texts, _Pieces]]" = weakref.WeakKeyDictionary()
+def _stand(file: Any, *, is_quick: bool = False) -> Optional[int]:
+    """Where a file stands; None where it can't tell. Of text its buffer's position is the quick one: it, too, is another one after a `seek`."""
+    try:
+        return cast(int, (getattr(file, "buffer", file) if is_quick else file).tell())
+    except (AttributeError, OSError, ValueError):
+        return None
 
 
-def _rest_of(file: Any) -> Tuple[_Texts, _Pieces]:
-    """What is left of an open file."""
-    if file not in _FILES:
-        # (a file that nobody has any more is forgotten)
-        pieces = _Pieces(weakref.ref(file))
-        _FILES[file] = _Texts(b"", pieces), pieces
-    return _FILES[file]
+class _File:
+    """An open file of games, which is read by pieces. After each game it is put where the next one begins, where it can be: so `tell` is a game's place, and a
+    file that stands elsewhere at the next call was put there by the caller, and is read from there."""
+
+    def __init__(self, file_of: Callable[[], Any]) -> None:
+        self._file_of, self._lock = file_of, threading.Lock()
+        self._begin()
+
+    # Begins where the file stands.
+    def _begin(self) -> None:
+        file = self._file_of()
+        self.is_text = self._is_back = False
+        # Where the next game begins and where the last piece ends, as `seek` takes it; None where that isn't known.
+        self._place = self._end = self._first = _stand(file)
+        # (of a packed file, a step back reads all of it again)
+        below = getattr(file, "buffer", file)
+        self._goes_back = isinstance(getattr(below, "raw", below), (io.FileIO, io.BytesIO, io.StringIO))
+        self._stood = _stand(file, is_quick=True)
+        self._texts = _Texts(b"", self._piece)
+
+    # The next piece's bytes.
+    def _piece(self, count: int) -> bytes:
+        file, begin = self._file_of(), self._end
+        if self._is_back:
+            file.seek(begin)
+            self._is_back = False
+        piece = file.read(count)
+        if not isinstance(piece, (str, bytes)):
+            raise TypeError(f"a file of games has text or bytes: {piece!r}")
+        data, self.is_text, self._end = _bytes_of(piece), isinstance(piece, str), _stand(file)
+        if not self.is_text:
+            # (bytes are counted from the beginning of the file)
+            self._texts.before += self._first or 0
+        self._first = None
+        # Positions are counted on only where they can be: a file's are numbers of bytes, of text it is tried.
+        if begin is None or self._end is None or self.is_text and (self._far(b""), self._far(data)) != (0, self._end - begin):
+            self._place = None
+        return data
+
+    # How far a file goes on over some of the bytes of its pieces; None where that can't be said.
+    def _far(self, data: bytes) -> Optional[int]:
+        if not self.is_text:
+            return len(data)
+        file = self._file_of()
+        encoding, returns = getattr(file, "encoding", None), data.count(b"\n") - data.count(b"\r\n")
+        try:
+            text = data.decode("utf-8", "surrogateescape")
+            count = len(text) if encoding is None else len(text.encode(encoding, file.errors or "strict"))
+        except UnicodeError:
+            return None
+        return count + (returns if getattr(file, "newlines", None) == "\r\n" else 0)
+
+    def next(self, repaired: Optional[_Repaired] = None) -> Tuple[Optional[bytes], Optional[int]]:
+        """The next game's export form and its place, as `_Texts.next`."""
+        with self._lock:
+            if _stand(self._file_of(), is_quick=True) != self._stood:
+                self._begin()
+            try:
+                game, place = self._texts.next(repaired)
+                return game, self._place if self.is_text else place
+            finally:
+                self._go_on()
+
+    # Puts the file where the next game begins.
+    def _go_on(self) -> None:
+        file, far = self._file_of(), self._far(self._texts.passed())
+        self._place = None if self._place is None or far is None else self._place + far
+        if self._place is not None and self._goes_back:
+            file.seek(self._place)
+            self._is_back = True
+        self._stood = _stand(file, is_quick=True)
 
 
-def read_game(source: Union[str, bytes, IO[Any]], *, encoding: Optional[str] = None) -> Optional[Game]:
+# The files that are read, as long as anybody has them.
+_FILES: "weakref.WeakKeyDictionary[Any, _File]" = weakref.WeakKeyDictionary()
+_FINDING = threading.Lock()
+
+
+def _file_of(file: Any) -> _File:
+    """What is known of an open file."""
+    with _FINDING:
+        if file not in _FILES:
+            _FILES[file] = _File(weakref.ref(file))
+        return _FILES[file]
+
+
+def read_game(source: Union[str, bytes, IO[Any]], *, encoding: Optional[str] = None, repaired: Optional[_Repaired] = None) -> Optional[Game]:
     """The first game of a text, or the next one of an open file; None where there is only whitespace. Bytes are read in the encoding that is named, where
     one is, else in UTF-8, or in ISO 8859-1 where the game is none; a byte that it doesn't have is a lone surrogate, as `errors="surrogateescape"` reads and
     writes it. A text that is none of bytes is UTF-8. A file is read by pieces of 2 MiB, and the next call goes on after the game of the last one, also where
-    that could not be read.
+    that could not be read. With `repaired` a game that can't be read is saved where it can be, as `games` does.
+
+    A file stands where the next game begins, after `seek` too: so `file.tell()` before a call is the game's place, which is `game.place`. Files that can't go back
+    (packed ones, pipes, text with line ends of several kinds) stand at the end of a piece.
 
     >>> jatshegi.pgn.read_game(" ") is None
     True
@@ -666,17 +755,24 @@ def read_game(source: Union[str, bytes, IO[Any]], *, encoding: Optional[str] = N
     ...         print(game.next().san)
     e4
     d4
+    >>> with io.StringIO("1. e4 * 1. d4 *") as file:
+    ...     first, second = (jatshegi.pgn.read_game(file) for _ in range(2))
+    ...     place = file.seek(second.place)
+    ...     jatshegi.pgn.read_game(file).next().san
+    'd4'
     """
     encoding = None if encoding is None else _known(encoding)
+    place: Optional[int]
     if isinstance(source, (str, bytes)):
-        text, is_text = _Texts(_bytes_of(source)).next(), isinstance(source, str)
+        is_text = isinstance(source, str)
+        text, place = _Texts(_bytes_of(source)).next(repaired)
     elif hasattr(source, "read"):
-        texts, pieces = _rest_of(source)
-        text = texts.next()
-        is_text = pieces.is_text
+        file = _file_of(source)
+        text, place = file.next(repaired)
+        is_text = file.is_text
     else:
         raise TypeError(f"games are read from a text, bytes or an open file: {source!r}")
-    return None if text is None else _game(text, "utf-8" if is_text else encoding)
+    return None if text is None else _game(text, "utf-8" if is_text else encoding, place)
 
 
 def read_headers(source: Union[str, bytes, IO[Any]], *, encoding: Optional[str] = None) -> Optional[Dict[str, str]]:
@@ -711,7 +807,7 @@ def _opened(path: Union[str, "os.PathLike[str]"]) -> Iterator[IO[Any]]:
 def games(
     source: Union[str, bytes, "os.PathLike[str]", IO[Any]],
     bad: Optional[Callable[[InvalidGameError], object]] = None,
-    repaired: Optional[Callable[[List[Repair]], object]] = None,
+    repaired: Optional[_Repaired] = None,
     *,
     encoding: Optional[str] = None,
 ) -> Iterator[Game]:
@@ -739,12 +835,13 @@ def games(
     """
     encoding = None if encoding is None else _known(encoding)
     if isinstance(source, bytes):
-        for text in _exports(_Texts(source, None, repaired), bad):
-            yield _game(text, encoding)
+        texts = _Texts(source)
+        for data, place in _games_of(lambda: texts.next(repaired), bad):
+            yield _game(data, encoding, place)
     elif hasattr(source, "read"):
-        pieces = _Pieces(lambda: source)
-        for text in _exports(_Texts(b"", pieces, repaired), bad):
-            yield _game(text, "utf-8" if pieces.is_text else encoding)
+        opened = _file_of(source)
+        for data, place in _games_of(lambda: opened.next(repaired), bad):
+            yield _game(data, "utf-8" if opened.is_text else encoding, place)
     else:
         with _opened(source) as file:
             yield from games(file, bad, repaired, encoding=encoding)
