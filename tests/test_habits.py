@@ -551,7 +551,25 @@ class Examples(unittest.TestCase):
 
     def test_a_tournament(self):
         shown, _ = self.run_example("tournament.py", "FILE")
-        self.assertEqual(shown.splitlines(), ["game 3: 1-0, but the board says CHECKMATE", f"{'A':30}{2.5:6g} / 3", f"{'B':30}{0.5:6g} / 3"])
+        wanted = ["game 3: 1-0, but the board says CHECKMATE", "game 4: can't be read as it is: Illegal at byte 157"]
+        self.assertEqual(shown.splitlines(), [*wanted, f"{'A':30}{2.5:6g} / 3", f"{'B':30}{0.5:6g} / 3", f"{'?':30}{0:6g} / 2"])
+
+    def test_a_tournament_is_numbered_as_arbiter_numbers_it(self):
+        knights, head = "Nf3 Nf6 Ng1 Ng8 ", '[White "A"]\n[Black "B"]\n\n'
+        king = head.replace("\n\n", '\n[FEN "4k3/8/8/8/8/8/8/R3K3 w - - 0 1"]\n\n')
+        texts = ["1. e4 e5 1-0", "1. e5 *", "1. f3 e5 2. g4 Qh4# 3. e4 1-0", "1. f3 e5 2. g4 Qh4# *", "(", knights * 4 + "e4 1/2-1/2", "1. e4 {", "1. d4 0-1", knights * 2 + "1-0"]
+        data = "\n\n".join(head + text for text in texts) + "\n\n" + king + "1. Ra2 Kd7 0-1\n\n" + head + "rubbish\n\n" + head + "1. f3 e5 2. g4 Qh4# 1/2-1/2\n"
+        ran = subprocess.run([f"{runs.TOP}/crates/arbiter/out/arbiter", "--format", "jsonl"], input=data, capture_output=True, text=True)
+        rows = [json.loads(line) for line in ran.stdout.splitlines()]
+        found = {row["number"] for row in rows if row["fault"] or row["over_ply"] or not row["agrees"] or row["left_open"] or row["bare_king_wins"] or row["threefold_ply"]}
+        with tempfile.NamedTemporaryFile("w", suffix=".pgn") as file:
+            file.write(data)
+            file.flush()
+            shown, _ = self.run_example("tournament.py", file.name)
+        games = [line for line in shown.splitlines() if line.startswith("game ")]
+        self.assertEqual(({int(line.split()[1][:-1]) for line in games}, len(found) > 7, len(rows)), (found, True, 12))
+        read = [row for row in rows if row["result"]]
+        self.assertEqual(sum(int(line.split("/")[1]) for line in shown.splitlines() if line not in games), 2 * len(read))
 
     def test_puzzles(self):
         given = "7k/8/5K2/8/8/8/8/6Q1 w - - 0 1\t1\n7k/8/5K2/8/8/8/8/6Q1 w - - 0 1\t2\n7k/8/8/8/8/8/8/KR6 w - - 0 1\t2\n8/8/8/8/8/5K2/7R/5k2 w - - 0 1\t2\n"
