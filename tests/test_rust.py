@@ -22,15 +22,38 @@ def read(path):
         return file.read()
 
 
+# Types of the header, and the names of its structs, as the crate has them.
+NUMBERS = {"uint8_t": "u8", "uint16_t": "u16", "uint32_t": "u32", "uint64_t": "u64", "int32_t": "i32", "size_t": "usize", "bool": "bool", "char": "u8"}
+STRUCTS = {"jatshegi_board": "Slot", **{f"jatshegi_{it.lower()}": it for it in ("Keys", "Stop", "Move", "Position", "Repair", "Report")}}
+
+
+def in_rust(declared, is_field=False):
+    """The type in Rust of what C declares so: an argument, or a field of a struct."""
+    const, kind, pointer, array = re.fullmatch(r"\s*(const )?(?:struct )?(\w+) (\*?)\w+(?:\[(\d+)\])?\s*", declared).groups()
+    ours = "core::ffi::c_void" if kind == "void" else {**NUMBERS, **STRUCTS}[kind]
+    if array and is_field:
+        return f"[{ours}; {array}]"
+    return f"*{'const' if const else 'mut'} {ours}" if pointer or array else ours
+
+
 class Declarations(unittest.TestCase):
     def test_each_function_of_the_header_is_declared(self):
-        """By its name and how many arguments it takes; the types are looked at by the tests that call them."""
+        """With the types of its arguments and of its result."""
         header = re.sub(r"/\*.*?\*/", "", read("include/jatshegi.h"), flags=re.S)
         ours = read("rust/src/sys.rs")
-        declared = {name: args.count(":") for name, args in re.findall(r"pub fn (jatshegi_\w+)\(([^)]*)\)", ours)}
-        wanted = {name: 0 if args == "void" else args.count(",") + 1 for name, args in re.findall(r"^(?:uint32_t|void) (jatshegi_\w+)\(([^)]*)\);", header, re.M)}
+        declared = {name: (re.findall(r": ([^,]+)", args), result or None) for name, args, result in re.findall(r"pub fn (jatshegi_\w+)\(([^)]*)\)(?: -> (\w+))?;", ours)}
+        wanted = {}
+        for result, name, args in re.findall(r"^(uint32_t|void) (jatshegi_\w+)\(([^)]*)\);", header, re.M):
+            wanted[name] = [in_rust(it) for it in re.split(r",\s*", args) if it != "void"], NUMBERS.get(result)
         self.assertGreater(len(wanted), 70)
         del wanted["jatshegi_keys_fill"]
+        self.assertEqual(declared, wanted)
+
+    def test_each_struct_has_the_fields_of_the_header(self):
+        """In order, with their types; the names may be others."""
+        header = re.sub(r"/\*.*?\*/", "", read("include/jatshegi.h"), flags=re.S)
+        wanted = {STRUCTS[name]: [in_rust(it, is_field=True) for it in fields.split(";") if it.strip()] for name, fields in re.findall(r"^struct (\w+) \{(.*?)^\};", header, re.M | re.S)}
+        declared = {name: re.findall(r": ([^\n]+),\n", fields) for name, fields in re.findall(r"#\[repr\(C\)\]\n(?:#\[[^\n]*\n)?pub struct (\w+) \{(.*?)^\}", read("rust/src/sys.rs"), re.M | re.S)}
         self.assertEqual(declared, wanted)
 
     def test_each_function_is_called(self):

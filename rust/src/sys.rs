@@ -1,5 +1,5 @@
-//! The functions of include/jatshegi.h and its types, as C has them, but for jatshegi_keys_fill, which nothing needs here; a test compares their names with
-//! the header.
+//! The functions of include/jatshegi.h and its types, as C has them, without jatshegi_keys_fill, which nothing needs here. A test compares their names, arguments
+//! and fields with the header.
 #![allow(missing_docs)]
 
 pub const OK: u32 = 0;
