@@ -214,6 +214,21 @@ class Installed(Used):
         ran = called("python3", "-c", "import jatshegi; print(jatshegi.__file__)", env={"HOME": self.folder})
         self.assertTrue(ran.stdout.startswith(f"{self.folder}/.local/lib/"), ran.stderr)
 
+    def test_links_of_the_installed_pages(self):
+        """They lead to an installed page, or to what a clone alone has: the sources, the suite and the examples."""
+        there = f"{self.folder}/there"
+        make("install", f"PREFIX={there}")
+        top = f"{there}/share/doc/jatshegi"
+        pages = [it for it in paths_below(top) if it.endswith(".md")]
+        self.assertGreater(len(pages), 20)
+        for page in pages:
+            with open(f"{top}/{page}", encoding="utf-8") as file:
+                for target in re.findall(r"\]\(([^)#\s]+)[^)]*\)", file.read()):
+                    path = os.path.normpath(f"{os.path.dirname(page)}/{target}".lstrip("/"))
+                    if "://" not in target and not path.startswith(("crates/", "suite/", "examples/", ".github/", "CONTRIBUTING.md")):
+                        with self.subTest(page=page, target=target):
+                            self.assertTrue(os.path.exists(f"{top}/{path}"))
+
     def test_cmake_finds_the_library(self):
         self.wants("cmake")
         make("install", f"PREFIX={self.folder}/before")
