@@ -363,8 +363,9 @@ class InTheBrowser(unittest.TestCase):
         page.until(lambda: page.fen.split()[1] == "b" and "e5" in page.moves, "one move is taken back")
         page.play("c5")
         page.until_moves("1. e4 e5 1... c5")
-        page.choose("nag", "1")
-        page.until_moves("1. e4 e5 1... c5!")
+        for nag, shown in (("4", "c5??"), ("1", "c5!"), ("18", "c5!+\u2212"), ("18", "c5!"), ("14", "c5!\u2a72"), ("15", "c5!\u2a71"), ("1", "c5\u2a71"), ("15", "c5"), ("1", "c5!")):
+            page.choose("nag", nag)
+            page.until_moves(f"1. e4 e5 1... {shown}")
         page.choose("nag", "none")
         page.until_moves("1. e4 e5 1... c5")
         page.click("undo")
@@ -549,10 +550,12 @@ class InTheBrowser(unittest.TestCase):
             if line is not None:
                 if draft is None or board.line(f"comment {draft}") == "ok":
                     draft = None
-                    if line:
-                        board.line(line)
-                    if what == "unmark":
+                    was = board.line("pgn")
+                    if what in ("nag", "unmark") and board.line("path") != "-":
                         self.assertEqual(library()._library.lib.jatshegi_board_clear_annotations(board._at), 0)
+                    # (the mark that was there is taken out)
+                    if line and (what != "nag" or board.line("pgn") == was):
+                        board.line(line)
             page.until(lambda: seen() == [board.fen(), comment() if draft is None else draft], f"after {number}, {what} {line}: {board.fen()}, {draft or comment()}")
         page.at("comment").send_keys(Keys.ESCAPE)
         self.assertEqual(self.saved().decode().rstrip(), board.pgn().rstrip())

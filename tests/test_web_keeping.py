@@ -142,6 +142,20 @@ class Model:
             self.result = result or self.result
         self.note()
 
+    def mark(self, nag):
+        """A move has one mark of those of moves, 1 to 6, and one of those of positions; the same once more takes it out."""
+        path = self.board.line("path") if self.settle() else "-"
+        if path == "-":
+            return
+        node = self.jatshegi.pgn.read_game(self.states[self.at][0].encode()).root
+        for i in path.split("."):
+            node = node.children[int(i)]
+        had = tuple(node.nags)
+        assert self.jatshegi._library.lib.jatshegi_board_clear_annotations(self.board._at) == 0
+        for it in [it for it in had if (it > 6) != (nag > 6)] + ([] if nag in had else [nag]):
+            self.board.line(f"nag {it}")
+        self.note()
+
     def can_return(self):
         return bool(self.left) and self.left[-1][1:] == (self, self.at)
 
@@ -249,8 +263,9 @@ class Keeping(Browsing):
             page.until(lambda: model.is_kept or page.script("return location.hash") == place, f"the address has {place}")
             self.reload(place)
         elif what == "nag":
-            page.choose("nag", "5")
-            model.do("nag 5")
+            nag = rng.choice([1, 5, 14])
+            page.choose("nag", str(nag))
+            model.mark(nag)
         elif what == "tag":
             field, name = rng.choice(list(TAGS.items()))
             value = rng.choice(["", "Caf\u00e9, A.", 'the "great"', "back\\slash", '\\"', "ends \\", '"', "] [x", "\u738b\u7693 \U0001f3c6 \u2654", f"{{n}} ({rng.randrange(9)})"])

@@ -167,6 +167,10 @@ export const showComment = () => {
 };
 export const saidHere = () => said;
 
+// The marks of the move at the cursor.
+let marks = [];
+export const marksHere = () => marks;
+
 let drawn = null;
 let marked = null;
 let current = null;
@@ -222,6 +226,7 @@ export const drawMoves = () => {
   if (had && !box.contains(document.activeElement)) box.querySelector('.move')?.focus({ preventScroll: true });
   markCurrent(row);
   said = row ? shown(row.comment) : '';
+  marks = row?.nags ?? [];
   showComment();
   announce(row);
   // (a control that can do nothing keeps the focus)
@@ -234,6 +239,8 @@ export const drawMoves = () => {
 // ---- The names and the result.
 
 export const drawTags = () => {
+  const players = ['White', 'Black'].map(tag);
+  document.title = players.some(Boolean) ? `${players.map((it) => it || '?').join(' \u2013 ')} \u00b7 Jatshegi` : 'Jatshegi: an analysis board';
   const box = by('tags');
   box.replaceChildren();
   const field = (name, input) => {

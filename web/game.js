@@ -248,6 +248,31 @@ export const unmark = () => doing(async () => {
   return true;
 });
 
+// Of each of these groups of marks a move has one: what is said of the move, and of the position after it.
+const GROUPS = [[1, 2, 3, 4, 5, 6], [10, 11, 12, 13, 14, 15, 16, 17, 18, 19, 20, 21]];
+
+/** Marks the move at the cursor, in the place of another mark of the same group; the mark that it has is taken out. `had` gives the marks that it has. */
+export const mark = (nag, had) => doing(async () => {
+  if (!await isSettled()) return false;
+  const was = had();
+  const group = GROUPS.find((it) => it.includes(nag)) ?? [nag];
+  const now = [...was.filter((it) => !group.includes(it)), ...(was.includes(nag) ? [] : [nag])];
+  if (now.length > was.length) return answered([`nag ${nag}`]);
+  const { status } = await asked('unmark', {});
+  const { bad, state } = await say(status === 0 ? now.map((it) => `nag ${it}`) : []);
+  if (status !== 0 || bad) {
+    await restored(game.history.here);
+    page.told(bad ? refusal(bad) : `The marks stay as they were: ${faultText(status)}`);
+    page.draw();
+    return false;
+  }
+  game.state = state;
+  page.told('');
+  note();
+  page.draw();
+  return true;
+});
+
 /**
  * The text's first game comes on the board, at the node with that path: beside the one that is there, or if it `isBeside` none in its place. `origin` is the file and
  * the number of the game there. Only in turn, once `isSettled`.

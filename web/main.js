@@ -3,10 +3,10 @@ import { ask, module } from './ask.js';
 import { moveNow, points, positionChanged, positionDrawn, reply, toggleAnalysis } from './analysis.js';
 import { Board, man, named } from './board.js';
 import { dialogs, openDialog, placeAt } from './dialogs.js';
-import { drawMoves, drawPlayers, drawStatus, drawTags, pathAt, saidHere, showComment } from './draw.js';
+import { drawMoves, drawPlayers, drawStatus, drawTags, marksHere, pathAt, saidHere, showComment } from './draw.js';
 import { editing } from './editor.js';
 import { choose, download, listAgain, read, readWhole, saveBack, showCollection } from './files.js';
-import { begin, exported, fileName, game, isSettled, lines, page, playTyped, redo, settled, stepped, doing, undo, unmark } from './game.js';
+import { begin, exported, fileName, game, isSettled, lines, mark, page, playTyped, redo, settled, stepped, doing, undo, unmark } from './game.js';
 import { keepOffline } from './kept.js';
 import { faultOf, isEmbedded, keepLink, linkNow, linked, openLink } from './link.js';
 import { shown, toBytes } from './jatshegi/src/bytes.js';
@@ -115,10 +115,10 @@ const steps = () => {
 
 const annotations = () => {
   by('nag').onchange = () => {
-    const mark = by('nag').value;
+    const chosen = by('nag').value;
     by('nag').value = '';
-    if (mark === 'none') unmark();
-    else if (mark) lines(`nag ${mark}`);
+    if (chosen === 'none') unmark();
+    else if (chosen) mark(Number(chosen), marksHere);
   };
   by('comment').oninput = () => {
     game.acts++;

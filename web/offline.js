@@ -1,6 +1,6 @@
 // Keeps the page's own files of one version in the browser, so that it opens without a net. A new version replaces them as a whole.
 // The list is written by tools/offline.
-const VERSION = '618c350e44170ac3';
+const VERSION = '8c71da73b8f1b00b';
 const KEPT = {
   'about.html': 'sha256-r1CC3PSgnT3IeddTCQ+9Qc4Ht/lyiBkQBzsxB+mInYc=',
   'analysis.js': 'sha256-hJYnAoGHEQGyPt764FR/D4jDfFQ4+x1gz6O6vkj5TUM=',
@@ -8,13 +8,13 @@ const KEPT = {
   'board.css': 'sha256-2+2tKwyDvMtYW1+B4D4v5bmp9zrSbWySPD1aFcIRGd4=',
   'board.js': 'sha256-KEk8zTyPJKF1oeiDPncRtcnMxq1txoiQWgGznsrRb1w=',
   'dialogs.js': 'sha256-A/DMyRk0ss1T4ccdYxVo4WQNcJ5zrYNywFvGcpZInRk=',
-  'draw.js': 'sha256-5pXJp9ta0vIGOvWLcbAPTcCLuY50Cwp45PyHv5JbOfQ=',
+  'draw.js': 'sha256-Ez/+qvShUA7z6FSgAtiB7PvFbghCyXK7q6mFBBf15PY=',
   'editor.js': 'sha256-CW9xUf71JzMWbNNuHnzfPbU9EWR2clZWxXmx1VHQ3QM=',
   'engine.js': 'sha256-XINIk4AlkbrbMMaBOUYsVq9+D8NFb4QxGGTlA3Oevo0=',
   'epd.js': 'sha256-xQn3GCHNc2Yqdh0gMV5ngVdUaQNX/WBZXprjkCkK10g=',
   'fen.js': 'sha256-tYVv38gdjVF02qg7ZhnHkVXIz6EbA+6cJslqsPCR140=',
   'files.js': 'sha256-Uu2HZX/poV6Vce4ouwfpLAMK5HgE+hjVIpUBJqER/e0=',
-  'game.js': 'sha256-YmPOus+oxgfpudZYkv7A/ZU/ut6jnogYvZGg9EiCW6g=',
+  'game.js': 'sha256-eVZDmitQltuhzbzoNRQq79Lq78r7+e2G9IyALeyBhhI=',
   'history.js': 'sha256-b2xYiCnIoEXfhgI8jth/7pFno7cjEuzPowCCkZyQYLc=',
   'icon.svg': 'sha256-MIqbBfrY8jneIrbk+mcJq7TJSYDbHm5LwjQhbWTpmWU=',
   'index.html': 'sha256-0N21y3oVQcC4oCtngdYOOvx4XyDoRVJrEV1/jjvRh/4=',
@@ -36,7 +36,7 @@ const KEPT = {
   'jatshegi/src/search.js': 'sha256-tb5krwVNfzmkC2fNaV0xzfi39StNgA/L70mvgNHxGUM=',
   'kept.js': 'sha256-vpP/bVdI8p6TCGMGRKn1e5vRVBq7u7djRam2xRtcoqM=',
   'link.js': 'sha256-yOY4ch4C9jWHyzEGT1ozdyWf8krTURqNMwrGeWkneLk=',
-  'main.js': 'sha256-mq3btMckCUxwo54r31YWryDvA8gmx3DuQ8DRRPwY69Y=',
+  'main.js': 'sha256-KHeGT9o+8zj7PT8r/o+csKP70072e+omSd8n+8/5gEw=',
   'mine.js': 'sha256-iFrKRb55WvGCqjgBMglRgYTcjtVq2BbhE2dHE2mWa94=',
   'own.js': 'sha256-59wcSsJGCgiOu9ePaeF6DWM7VaSW5Rhqcj+D+ktElng=',
   'pgn.js': 'sha256-TxoePkcQmrumVSgjY6UWWb28LNwgXcrlPUfO+Oe+efo=',
