@@ -397,6 +397,34 @@ class InTheBrowser(unittest.TestCase):
             self.page.click("new")
             self.page.until_moves("")
 
+    def test_the_entry_of_the_list_that_is_on_the_board_is_marked(self):
+        page = self.page
+        current = "return [...document.querySelectorAll('#games li')].map((it) => Boolean(it.querySelector('[aria-current]')))"
+
+        def chosen(number):
+            page.script("document.querySelectorAll('#games button')[arguments[0]].click()", number)
+            page.until(lambda: page.script(current) == [it == number for it in range(3)], f"entry {number} is marked: {page.script(current)}")
+
+        games = "1. e4 *\n\n1. d4 *\n\n1. c4 *\n"
+        page.paste(games)
+        page.until(lambda: page.script(current) == [True, False, False], "the first game is on the board")
+        chosen(2)
+        page.click("new")
+        page.until(lambda: page.script(current) == [False] * 3, "none is")
+        page.click("undo")
+        page.until(lambda: page.script(current) == [False, False, True], "the last one is again")
+        with tempfile.NamedTemporaryFile(suffix=".pgn") as file:
+            file.write(games.encode())
+            file.flush()
+            page.at("file").send_keys(file.name)
+            page.until(lambda: page.script("return document.getElementById('saveback').hidden") is False, "the file is read")
+        chosen(1)
+        page.click("undo")
+        page.until(lambda: page.script(current) == [True, False, False], "the first one is again")
+        page.paste("4k3/8/8/8/8/8/8/R3K3 w - - 0 1\n4k3/8/8/8/8/8/8/4K2R w - - 0 1\n4k3/8/8/8/8/8/8/4K2Q b - - 0 1\n")
+        page.until_told("choose one")
+        chosen(1)
+
     def test_all_games_are_saved_in_one_file(self):
         games = [b'[White "A"]\n[Date "2024.??.??"]\n\n1. e4 {first} *', b"1. d4 d5 1/2-1/2", b"{a comment alone} *"]
         for text in games:

@@ -722,6 +722,24 @@ class InChromium(Keeping, unittest.TestCase):
             if os.path.lexists(f"{self.folder}/profile/{name}"):
                 os.remove(f"{self.folder}/profile/{name}")
 
+    def test_where_nothing_can_be_kept_a_game_takes_the_place_of_another(self):
+        page = self.page
+        added = self.browser.execute_cdp_cmd("Page.addScriptToEvaluateOnNewDocument", {"source": "Object.defineProperty(globalThis, 'indexedDB', { value: undefined });"})
+        try:
+            page.open(keeps=True)
+        finally:
+            self.browser.execute_cdp_cmd("Page.removeScriptToEvaluateOnNewDocument", added)
+        self.assertEqual((page.text("unkept"), page.text("keeping")), ("", "not kept"))
+        page.play("e4")
+        self.assertIn("Nothing is kept in this browser", page.text("unkept"))
+        self.assertTrue(page.script("const event = new Event('beforeunload', { cancelable: true }); dispatchEvent(event); return event.defaultPrevented"))
+        had = self.text()
+        for begin in (lambda: page.click("new"), lambda: page.set_fen("4k3/8/8/8/8/8/8/R3K3 w - - 0 1"), lambda: page.paste("1. d4 *")):
+            begin()
+            page.until(lambda: self.text() != had, "another game is begun")
+            page.script("document.getElementById('undo').click()")
+            self.until_text(had)
+
     def test_a_file_that_may_be_written_is(self):
         """The browser gives a file to be written: here one of its own."""
         page = self.page

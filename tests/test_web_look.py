@@ -328,11 +328,17 @@ class Looking:
         page = self.page
         self.read()
         self.assertEqual((page.text("player1"), page.text("player2")), ("Caruana, Fabiano28041", "Nakamura, Hikaru28020"))
+        self.assertEqual(page.script("return document.title"), "Caruana, Fabiano \u2013 Nakamura, Hikaru \u00b7 Jatshegi")
         page.script("document.getElementById('flip').click()")
         self.assertEqual((page.text("player1"), page.text("player2")), ("Nakamura, Hikaru28020", "Caruana, Fabiano28041"))
         page.script("document.getElementById('new').click()")
         page.until_moves("")
         self.assertEqual((page.text("player1"), page.text("player2")), ("Black", "White"))
+        self.assertEqual(page.script("return document.title"), "Jatshegi: an analysis board")
+        hint = "return document.getElementById('hint').checkVisibility()"
+        self.assertTrue(page.script(hint))
+        page.play("e4")
+        self.assertFalse(page.script(hint))
 
     def test_men_glide_where_motion_is_wanted(self):
         page = self.page

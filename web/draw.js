@@ -227,6 +227,7 @@ export const drawMoves = () => {
   markCurrent(row);
   said = row ? shown(row.comment) : '';
   marks = row?.nags ?? [];
+  by('hint').hidden = all.length !== 1 || all[0].comment !== '';
   showComment();
   announce(row);
   // (a control that can do nothing keeps the focus)

@@ -2,7 +2,7 @@
 import { ask } from './ask.js';
 import { areMostPositions, position } from './epd.js';
 import { doing, exported, game, inTurn, isSettled, page, taken } from './game.js';
-import { another, isAsLoaded, noteLoaded } from './mine.js';
+import { another, idHere, isAsLoaded, noteLoaded } from './mine.js';
 import { fromBytes, shown, toBytes } from './jatshegi/src/bytes.js';
 import { hasStore, newFileId, readFile, writeFile } from './store.js';
 import { faultWords, refusal } from './words.js';
@@ -11,7 +11,8 @@ const by = (id) => document.getElementById(id);
 const MOST_SHOWN = 500;
 
 // The games, or positions, that were read last: the bytes, what was found in them, and the file, where they are of one: `{id, name, handle}`.
-const collected = (more = {}) => ({ bytes: null, file: null, found: [], bad: 0, wrong: 0, first: null, isLoaded: null, arePositions: false, ...more });
+// `opened` has the numbers of those that were opened, by the games that they are then.
+const collected = (more = {}) => ({ bytes: null, file: null, found: [], bad: 0, wrong: 0, first: null, isLoaded: null, arePositions: false, opened: new Map(), ...more });
 let collection = collected();
 
 // ---- The list.
@@ -45,10 +46,34 @@ const openListed = (it) => doing(async () => {
   const origin = originOf(it);
   if (!await isSettled() || !await taken(bytes.slice(it.at, it.at + it.used), { isBeside: !isAsLoaded(), origin })) return;
   noteLoaded();
+  noteOpened(collection, it);
 });
+
+const openPosition = async (it) => {
+  const of = collection;
+  if (await another(`set ${it.fen}`, calledOf(it.said))) noteOpened(of, it);
+};
+
+const noteOpened = (of, { number }) => {
+  of.opened.set(idHere(), number);
+  markOpened();
+};
+
+// The entry of the list that is on the board.
+let marked = null;
+export const markOpened = () => {
+  const { file, opened } = collection;
+  const number = file && game.origin ? game.origin.file === file.id && game.origin.number : opened.get(idHere());
+  const now = number ? by('games').querySelector(`[data-number="${number}"] button`) : null;
+  if (now === marked) return;
+  marked?.removeAttribute('aria-current');
+  now?.setAttribute('aria-current', 'true');
+  marked = now;
+};
 
 const entry = (it) => {
   const row = document.createElement('li');
+  row.dataset.number = it.number;
   if (it.isBad) {
     row.className = 'bad';
     row.textContent = it.label;
@@ -57,7 +82,7 @@ const entry = (it) => {
   const button = document.createElement('button');
   button.textContent = it.label;
   if (it.fen) button.title = it.fen;
-  button.onclick = () => (it.fen ? another(`set ${it.fen}`, calledOf(it.said)) : openListed(it));
+  button.onclick = () => (it.fen ? openPosition(it) : openListed(it));
   if (it.finding) row.className = 'finding';
   row.append(button);
   return row;
@@ -75,6 +100,7 @@ export const showCollection = () => {
   const matches = words ? found.filter((it) => has(it, words)) : found;
   by('games').append(...matches.slice(by('games').children.length, MOST_SHOWN).map(entry));
   by('howmany').textContent = `${counted[0]}${bad ? counted[1] : ''}${wrong ? `; ${wrong} with a finding` : ''}${matches.length > MOST_SHOWN ? `; the first ${MOST_SHOWN} are shown` : ''}`;
+  markOpened();
 };
 
 // ---- Reading.
@@ -124,6 +150,7 @@ export const read = async (bytes, { before = game.acts, file = null } = {}) => {
     if (game.acts !== before || collection !== mine || !await isSettled()) return false;
     const isTaken = await taken(bytes.slice(it.at, it.at + it.used), { isBeside: !file || !isAsLoaded(), origin: originOf(it) });
     if (isTaken && file) noteLoaded();
+    if (isTaken) noteOpened(mine, it);
     return isTaken;
   });
   const show = () => {

@@ -5,7 +5,7 @@ import { Board, man, named } from './board.js';
 import { dialogs, openDialog, placeAt } from './dialogs.js';
 import { drawMoves, drawPlayers, drawStatus, drawTags, marksHere, pathAt, saidHere, showComment } from './draw.js';
 import { editing } from './editor.js';
-import { choose, download, listAgain, read, readWhole, saveBack, showCollection } from './files.js';
+import { choose, download, listAgain, markOpened, read, readWhole, saveBack, showCollection } from './files.js';
 import { begin, exported, fileName, game, isSettled, lines, mark, page, playTyped, redo, settled, stepped, doing, undo, unmark } from './game.js';
 import { keepOffline } from './kept.js';
 import { faultOf, isEmbedded, keepLink, linkNow, linked, openLink } from './link.js';
@@ -47,6 +47,7 @@ page.draw = () => {
   drawMoves();
   if (!by('fenbox').open) by('fen').value = game.state.fen;
   by('saveback').hidden = !game.origin;
+  markOpened();
   positionDrawn(game.isMoved);
   game.isMoved = false;
   if (isEmbedded()) return;

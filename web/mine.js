@@ -41,6 +41,9 @@ const fresh = (history, { isEmpty = true, isPosition = false, called = '', from 
 /** What a game is called: by the name that was given to it, else by its players, by that of the position that it began with, or by its number. */
 export const nameOf = ({ name, players, called, serial }) => name || players || called || `Game ${serial}`;
 
+/** The name by which the game on the board is kept; null where none is. */
+export const idHere = () => mine.here?.record.id ?? null;
+
 /** Whether nothing has been done with the game on the board. */
 export const isFresh = () => {
   const { isEmpty, record, history } = mine.here;
@@ -139,7 +142,10 @@ export const keep = (isMade = true) => {
     return;
   }
   it.isMade ||= isMade;
-  if (mine.trouble) return;
+  if (mine.trouble) {
+    show();
+    return;
+  }
   Object.assign(it, { draft: game.draft, players: players() });
   it.isDirty = true;
   if (isMade) askToStay().catch(() => {});

@@ -1,6 +1,6 @@
 // Keeps the page's own files of one version in the browser, so that it opens without a net. A new version replaces them as a whole.
 // The list is written by tools/offline.
-const VERSION = '8c71da73b8f1b00b';
+const VERSION = '5749d4ea94cac90f';
 const KEPT = {
   'about.html': 'sha256-r1CC3PSgnT3IeddTCQ+9Qc4Ht/lyiBkQBzsxB+mInYc=',
   'analysis.js': 'sha256-hJYnAoGHEQGyPt764FR/D4jDfFQ4+x1gz6O6vkj5TUM=',
@@ -8,16 +8,16 @@ const KEPT = {
   'board.css': 'sha256-2+2tKwyDvMtYW1+B4D4v5bmp9zrSbWySPD1aFcIRGd4=',
   'board.js': 'sha256-KEk8zTyPJKF1oeiDPncRtcnMxq1txoiQWgGznsrRb1w=',
   'dialogs.js': 'sha256-A/DMyRk0ss1T4ccdYxVo4WQNcJ5zrYNywFvGcpZInRk=',
-  'draw.js': 'sha256-Ez/+qvShUA7z6FSgAtiB7PvFbghCyXK7q6mFBBf15PY=',
+  'draw.js': 'sha256-ouqhbwgh0jd6gJxypBL8r25e8nqFkQID536tL6sF+NE=',
   'editor.js': 'sha256-CW9xUf71JzMWbNNuHnzfPbU9EWR2clZWxXmx1VHQ3QM=',
   'engine.js': 'sha256-XINIk4AlkbrbMMaBOUYsVq9+D8NFb4QxGGTlA3Oevo0=',
   'epd.js': 'sha256-xQn3GCHNc2Yqdh0gMV5ngVdUaQNX/WBZXprjkCkK10g=',
   'fen.js': 'sha256-tYVv38gdjVF02qg7ZhnHkVXIz6EbA+6cJslqsPCR140=',
-  'files.js': 'sha256-Uu2HZX/poV6Vce4ouwfpLAMK5HgE+hjVIpUBJqER/e0=',
+  'files.js': 'sha256-YaAhvt5PKhmbmeISfseU+F6WLcmxO+645jG9kLLRzVE=',
   'game.js': 'sha256-eVZDmitQltuhzbzoNRQq79Lq78r7+e2G9IyALeyBhhI=',
   'history.js': 'sha256-b2xYiCnIoEXfhgI8jth/7pFno7cjEuzPowCCkZyQYLc=',
   'icon.svg': 'sha256-MIqbBfrY8jneIrbk+mcJq7TJSYDbHm5LwjQhbWTpmWU=',
-  'index.html': 'sha256-0N21y3oVQcC4oCtngdYOOvx4XyDoRVJrEV1/jjvRh/4=',
+  'index.html': 'sha256-o21pwKXsM2Kbh0fXztp1Uq4FXQMn2DGFpbXsYLJgdXY=',
   'jatshegi.wasm': 'sha256-98P1G3cRx3v/IPMxr52gDZTUf7pEfq+Y78fyxvGpujw=',
   'jatshegi/src/boards.js': 'sha256-4q1gA9sVJ0QEL+j/WaH/7jQuueHiq5pwfpy1xB1kZHU=',
   'jatshegi/src/bytes.js': 'sha256-L1KCUkgWQXHkntmbRa68OSfnQGFQUXUkQyDSGxZvCyE=',
@@ -36,14 +36,14 @@ const KEPT = {
   'jatshegi/src/search.js': 'sha256-tb5krwVNfzmkC2fNaV0xzfi39StNgA/L70mvgNHxGUM=',
   'kept.js': 'sha256-vpP/bVdI8p6TCGMGRKn1e5vRVBq7u7djRam2xRtcoqM=',
   'link.js': 'sha256-yOY4ch4C9jWHyzEGT1ozdyWf8krTURqNMwrGeWkneLk=',
-  'main.js': 'sha256-KHeGT9o+8zj7PT8r/o+csKP70072e+omSd8n+8/5gEw=',
-  'mine.js': 'sha256-iFrKRb55WvGCqjgBMglRgYTcjtVq2BbhE2dHE2mWa94=',
+  'main.js': 'sha256-Sa71l0CKqA21SoZZ5zMCw5o4zD0RrJzHc9N9fSbWtrI=',
+  'mine.js': 'sha256-Kb1sekNLtErIwceND5X0C61LXivw+30R15c9RCUo8TE=',
   'own.js': 'sha256-59wcSsJGCgiOu9ePaeF6DWM7VaSW5Rhqcj+D+ktElng=',
   'pgn.js': 'sha256-TxoePkcQmrumVSgjY6UWWb28LNwgXcrlPUfO+Oe+efo=',
   'settings.js': 'sha256-lfnY3Lee1w8sdBUo5DpbL5zUnuORJHD/B69WyxuGQrs=',
   'spellings.js': 'sha256-4ZUgPyCZJ5j4XbOYL9JMkb+ulsYm/jMrJLyqndlE4bo=',
   'store.js': 'sha256-C10zWHMq50ar1TXN97UWrl7czSU+khYnbTpapLDHo2A=',
-  'style.css': 'sha256-VOM12pbKvJ4y2pqyi80VSiMnp8XcFWZkBc2YcUe8rbc=',
+  'style.css': 'sha256-Hb4y4hToSpLUdJJ30A4xNEV7ibiZCp3IRfQ5ZdnsE94=',
   'words.js': 'sha256-GznX/PpEnbGf5FoCE7c1yJ675bC5LesFR1qgrlTGLVk=',
   'worker.js': 'sha256-hcPzxqihlL8WdLvPoSMFLCgdpGtnEIMAnrJGsCNHIb0=',
 };
