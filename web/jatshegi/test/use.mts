@@ -1,6 +1,9 @@
 // The types, by a program that the TypeScript compiler has to take, and calls that it has to refuse.
 import { Chess, ChessError, Game, Move, Node, games, readGames, validateFen, type Fault, type Square } from 'jatshegi';
 import { start } from 'jatshegi/core';
+import { Chess as Inline } from 'jatshegi/inline';
+const inline: Chess = new Inline();
+inline.turn();
 const chess: Chess = new Chess();
 const sans: string[] = chess.moves();
 const verbose: Move[] = chess.moves({ verbose: true, square: 'e2', piece: 'p' });
