@@ -122,6 +122,42 @@ class Snippets(unittest.TestCase):
         self.assertTrue(game.add_main_variation("d4") is queen and game.children == (queen, again, first))
         self.assertEqual(seen(game), seen(jatshegi.pgn.Game(str(game))))
 
+    def test_annotations_are_taken_out(self):
+        text = "1. e4 $1 $14 $3 $14 {a} (1. d4 $2 {b} d5) 1... e5 $5 *"
+        for call, wanted in (
+            (lambda nags: nags.discard(14), (1, 3)),
+            (lambda nags: nags.remove(1), (14, 3, 14)),
+            (lambda nags: nags.discard(9), (1, 14, 3, 14)),
+            (lambda nags: nags.clear(), ()),
+            (lambda nags: setattr(nags._node, "nags", {3}), (3,)),
+            (lambda nags: setattr(nags._node, "nags", [7, 14, 7]), (14, 14, 7)),
+            (lambda nags: setattr(nags._node, "nags", ()), ()),
+            (lambda nags: setattr(nags._node, "nags", [3, 14, 1, 5]), (1, 14, 3, 14, 5)),
+        ):
+            game = jatshegi.pgn.read_game(text)
+            call(game.next().nags)
+            self.assertEqual((game.next().nags, seen(game)), (wanted, seen(jatshegi.pgn.Game(str(game)))))
+            others = [game.next().comment, game["d4"].nags, game["d4"].comment, game.next().next().nags]
+            self.assertEqual(others, ["a", (2,), "b", (5,)])
+        game.nags.clear()
+        game.next().next().nags.clear()
+        self.assertEqual(movetext(game).count("$"), 6)
+
+    def test_annotations_that_cannot_be_added_again_are_not_lost(self):
+        from jatshegi import _edits
+
+        game = jatshegi.pgn.read_game("1. e4 $1 $14 $3 {a} (1. d4) e5 *")
+        game.next().nags.add(4)
+        before, annotate, left = bytes(game), _edits.c.lib.jatshegi_board_annotate, [0, 0, _edits.c.NO_MEMORY]
+        _edits.c.lib.jatshegi_board_annotate = lambda *words: left.pop(0) or annotate(*words)
+        try:
+            self.assertRaises(MemoryError, game.next().nags.discard, 14)
+        finally:
+            _edits.c.lib.jatshegi_board_annotate = annotate
+        self.assertEqual((bytes(game), game.next().nags), (before, (1, 14, 3, 4)))
+        game.next().nags.discard(14)
+        self.assertEqual((game.next().nags, seen(game)), ((1, 3, 4), seen(jatshegi.pgn.Game(str(game)))))
+
     def test_tags(self):
         game = jatshegi.pgn.read_game('[White "R\u00e9ti"] [ECO "A04"] [FEN "4k3/8/8/8/8/8/4P3/4K3 w - - 0 1"] 1. e4 1-0')
         tags = game.headers
@@ -307,9 +343,12 @@ class Refused(unittest.TestCase):
             (ValueError, lambda: node.nags.update([3, -1])),
             (TypeError, lambda: node.nags.add(1.0)),
             (TypeError, lambda: node.nags.add(True)),
-            (ValueError, lambda: node.nags.remove(1)),
-            (ValueError, lambda: node.nags.discard(1)),
-            (ValueError, lambda: setattr(node, "nags", {2})),
+            (KeyError, lambda: node.nags.remove(2)),
+            (ValueError, lambda: node.nags.discard(256)),
+            (TypeError, lambda: node.nags.remove("!")),
+            (ValueError, lambda: setattr(node, "nags", [2, 256])),
+            (TypeError, lambda: setattr(node, "nags", [2, None])),
+            (ValueError, lambda: setattr(game, "nags", [2])),
             (ValueError, lambda: game.nags.add(1)),
             (ValueError, lambda: game.add_line([], nags=[1], comment="x")),
             (ValueError, lambda: setattr(game, "result", "1-1")),

@@ -1,11 +1,14 @@
 """The Python package in the names of python-chess: snippets as its users write them, and each short question beside what the board says otherwise."""
 import ast
+import copy
 import importlib
 import importlib.util
+import inspect
 import io
 import json
 import os
 import pickle
+import pydoc
 import random
 import shutil
 import struct
@@ -13,6 +16,7 @@ import subprocess
 import sys
 import tempfile
 import unittest
+import weakref
 import xml.dom.minidom
 
 import runs
@@ -109,7 +113,7 @@ class Snippets(unittest.TestCase):
                 board.push_san(san)
         self.assertTrue(board.is_repetition() and board.is_repetition(2) and not board.is_repetition(4) and board.can_claim_threefold_repetition())
         self.assertEqual((board.can_claim_fifty_moves(), board.result(), board.result(claim_draw=True)), (False, "*", "1/2-1/2"))
-        self.assertEqual(board.outcome(claim_draw=True).termination, jatshegi.Status.THREEFOLD_REPETITION)
+        self.assertEqual(board.outcome(claim_draw=True).termination, jatshegi.Termination.THREEFOLD_REPETITION)
         for clock, can in ((98, False), (99, True), (100, True)):
             board = jatshegi.Board(f"7k/8/8/8/8/8/R7/K7 w - - {clock} 80")
             self.assertEqual((board.can_claim_fifty_moves(), board.can_claim_draw(), board.can_claim_threefold_repetition()), (can, can, False))
@@ -305,6 +309,37 @@ class Sets(unittest.TestCase):
             self.assertEqual(ours.mirror(), {it ^ 56 for it in model})
             self.assertEqual([at for at, is_in in enumerate(ours.tolist()) if is_in], sorted(model))
 
+    def test_sets_beside_words(self):
+        """The same operations with a word of 64 bits, a set, and a list of squares."""
+        chance, Set = random.Random(65), jatshegi.SquareSet
+        for _ in range(200):
+            mask, word = chance.getrandbits(64), chance.getrandbits(64)
+            ours = Set(mask)
+            squares = [square for square in range(64) if word >> square & 1]
+            for other in (word, Set(word), set(squares), frozenset(squares)):
+                self.assertEqual([int(it) for it in (ours | other, ours & other, ours ^ other, ours - other)], [mask | word, mask & word, mask ^ word, mask & ~word])
+                self.assertEqual([int(it) for it in (other | ours, other & ours, other ^ ours, other - ours)], [mask | word, mask & word, mask ^ word, word & ~mask])
+                found = [ours.union(other), ours.intersection(other), ours.symmetric_difference(other), ours.difference(other)]
+                self.assertEqual([it.mask for it in found], [mask | word, mask & word, mask ^ word, mask & ~word])
+                self.assertEqual((ours == other, other == ours, Set(word) == other, other == Set(word)), (mask == word, mask == word, True, True))
+                self.assertEqual((ours.isdisjoint(other), ours.issubset(other), (ours | other).issuperset(other)), (not mask & word, not mask & ~word, True))
+                changed = [ours.copy() for _ in range(8)]
+                kept = list(changed)
+                changed[0] |= other
+                changed[1] &= other
+                changed[2] ^= other
+                changed[3] -= other
+                for it, name in zip(changed[4:], ("update", "intersection_update", "symmetric_difference_update", "difference_update")):
+                    getattr(it, name)(other)
+                self.assertEqual([int(it) for it in changed], [mask | word, mask & word, mask ^ word, mask & ~word] * 2)
+                self.assertTrue(all(it is other for it, other in zip(changed, kept)))
+            shift = chance.randrange(64)
+            self.assertEqual((int(ours << shift), int(ours >> shift), ours == -1, ours != 1 << 64), (mask << shift & (1 << 64) - 1, mask >> shift, False, True))
+        for other in (-1, 1 << 64, [64]):
+            for call in (ours.__or__, ours.__and__, ours.__xor__, ours.__sub__, ours.update):
+                self.assertRaises(ValueError, call, other)
+        self.assertRaises(TypeError, lambda: ours | None)
+
     def test_what_is_no_square(self):
         squares = jatshegi.SquareSet([0, 63])
         for wrong in (-1, 64):
@@ -345,6 +380,11 @@ class Pictures(unittest.TestCase):
         at = lambda text, name: next((it.getAttribute("x"), it.getAttribute("y")) for it in parsed(text).getElementsByTagName("rect") if it.firstChild and it.firstChild.firstChild.data == name)
         self.assertEqual(at(svg.board(orientation=chess.BLACK), "a1"), at(svg.board(), "h8"))
         self.assertEqual(count(svg.piece(chess.Piece.from_symbol("q")), "circle"), 5)
+        # Men without kings, as no board has them.
+        knight = svg.board({chess.E4: chess.Piece.from_symbol("N"), chess.A1: "p"})
+        self.assertEqual((knight.count("translate"), svg.board({}), svg.board(chess.Board().piece_map())), (2, plain, start))
+        self.assertRaises(ValueError, svg.board, {64: chess.Piece.from_symbol("N")})
+        self.assertRaises(ValueError, svg.board, {0: "x"})
 
     def test_what_cannot_be_drawn(self):
         svg = jatshegi.svg
@@ -458,12 +498,14 @@ class Differences(unittest.TestCase):
     def test_positions(self):
         chess, board = jatshegi, jatshegi.Board()
         self.row("`Board(None)`")
-        self.assertEqual(chess.Board(None).fen(), chess.STARTING_FEN)
+        with self.assertRaisesRegex(TypeError, "both kings"):
+            chess.Board(None)
         self.row("`fen()`")
         board.push_san("e4")
         self.assertEqual((board.fen().split()[3], board.epd().split()[3], board.ep_square), ("e3", "-", chess.E3))
         self.row("`legal_moves`")
-        self.assertEqual((type(board.legal_moves), len(board.legal_moves)), (list, 20))
+        moves = board.legal_moves
+        self.assertEqual((isinstance(moves, list), len(moves), moves.count(), moves.count(moves[0]), moves.count(chess.Move(0, 1)), moves == list(moves)), (True, 20, 20, 1, 0, True))
         self.row("`ply`, `status`")
         self.assertEqual((board.ply, board.status, board.is_valid()), (1, chess.Status.PLAY, True))
         self.row("`set_piece_at(square, piece)`")
@@ -488,6 +530,63 @@ class Differences(unittest.TestCase):
         self.row("`parse_san(text)`")
         self.assertRaises(ValueError, board.parse_san, "Ng1-f3")
         self.assertEqual(board.lan(chess.Move.from_uci("g1f3")), "Ng1-f3")
+
+    def test_attributes(self):
+        chess, board = jatshegi, jatshegi.Board()
+        self.row("`castling_rights`, `chess960`")
+        for name, value in (("castling_rights", 0), ("chess960", True), ("turn", chess.BLACK), ("tern", 1), ("_fields", 1), ("push", None), ("move_stack", [])):
+            self.assertRaises(AttributeError, setattr, board, name, value)
+        for fen, squares in (("r3k2r/8/8/8/8/8/8/R3K2R w KQkq - 0 1", {0, 7, 56, 63}), ("r3k2r/8/8/8/8/8/8/R3K2R w Qk - 0 1", {0, 63}), ("4k3/8/8/8/8/8/8/R3K2R w - - 0 1", set())):
+            self.assertEqual((chess.SquareSet(chess.Board(fen).castling_rights), chess.Board(fen).chess960), (squares, False))
+
+        class Mine(chess.Board):
+            pass
+
+        class Bare(chess.Board):
+            __slots__ = ()
+
+        mine = Mine()
+        mine.tern = [1]
+        for other in (mine.copy(), copy.copy(mine), copy.deepcopy(mine), Bare().copy(), pickle.loads(pickle.dumps(board)), copy.deepcopy(board)):
+            self.assertEqual((getattr(other, "tern", [1]), weakref.ref(other)() is other, other.fen()), ([1], True, chess.STARTING_FEN))
+            self.assertRaises(AttributeError, setattr, other, "turn", chess.BLACK)
+        self.assertFalse(hasattr(board, "__dict__"))
+
+    def test_what_help_shows(self):
+        shown = pydoc.render_doc(jatshegi.Board, renderer=pydoc.plaintext)
+        self.assertNotIn("_position", shown)
+        self.assertIn("encoding", str(inspect.signature(jatshegi.Board)))
+        self.assertEqual(list(inspect.signature(jatshegi.Board).parameters), ["fen", "encoding"])
+
+    def test_words_have_the_names_of_python_chess(self):
+        chess, board = jatshegi, jatshegi.Board()
+        self.assertEqual(len(board.attackers(color=chess.WHITE, square=chess.F3)), 3)
+        self.assertEqual((board.has_kingside_castling_rights(color=True), board.has_queenside_castling_rights(color=False), board.attack_counts(color=True)[18]), (True, True, 3))
+        # Alike by ctypes and in C: those that are called most often take no keywords.
+        for call, name in ((board.push, "move"), (board.san, "move"), (board.parse_san, "san")):
+            self.assertRaises(TypeError, call, **{name: chess.Move(12, 28)})
+
+    def test_ends(self):
+        chess = jatshegi
+        self.row("`outcome().termination`, `status`")
+        names = ("CHECKMATE", "STALEMATE", "INSUFFICIENT_MATERIAL", "SEVENTYFIVE_MOVES", "FIVEFOLD_REPETITION", "FIFTY_MOVES", "THREEFOLD_REPETITION")
+        self.assertEqual([(it.name, it.value, bool(it)) for it in chess.Termination], [(name, value, True) for value, name in enumerate(names, 1)])
+        end = chess.Board("7k/8/8/8/8/8/8/K7 b - -")
+        self.assertEqual((end.status, end.outcome().termination), (chess.Status.DEAD_POSITION, chess.Termination.INSUFFICIENT_MATERIAL))
+        self.assertEqual(pickle.loads(pickle.dumps(end.outcome())), end.outcome())
+
+    def test_main_lines(self):
+        self.row("`mainline()`, `mainline_moves()`")
+        game = jatshegi.pgn.read_game("1. e4 e5 $1 (1... c5) 2. Nf3 {so} *")
+        for line in (game.mainline_moves(), game.next().mainline_moves(), game.mainline(), game.next().mainline()):
+            found = list(line)
+            self.assertEqual((list(line), list(reversed(line)), len(line), bool(line)), (found, found[::-1], len(found), True))
+        self.assertEqual((str(game.mainline_moves()), str(game.next().mainline())), ("1. e4 e5 $1 2. Nf3 {so}", "1... e5 $1 2. Nf3 {so}"))
+        ended = game.end().mainline_moves()
+        self.assertEqual((bool(jatshegi.pgn.Game().mainline()), bool(ended), list(ended), str(ended)), (False, False, [], ""))
+        line = game.mainline()
+        game.end().add_variation("Nc6")
+        self.assertEqual((len(line), [node.san for node in line]), (4, ["e4", "e5", "Nf3", "Nc6"]))
 
     def test_equality(self):
         board, other = jatshegi.Board(), jatshegi.Board()

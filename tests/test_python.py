@@ -175,7 +175,7 @@ class TheBoard(unittest.TestCase):
             for san in ("Nf3", "Nf6", "Ng1", "Ng8"):
                 claimed.push_san(san)
         self.assertEqual((claimed.repetitions(), claimed.claims(), claimed.outcome()), (3, (True, False), None))
-        self.assertEqual(claimed.outcome(claim_draw=True), (jatshegi.Status.THREEFOLD_REPETITION, None))
+        self.assertEqual(claimed.outcome(claim_draw=True), (jatshegi.Termination.THREEFOLD_REPETITION, None))
         for _ in range(2):
             for san in ("Nf3", "Nf6", "Ng1", "Ng8"):
                 claimed.push_san(san)
@@ -184,15 +184,15 @@ class TheBoard(unittest.TestCase):
             ("R5k1/5ppp/8/8/8/8/8/6K1 b - - 0 1", "CHECKMATE", jatshegi.WHITE, "1-0"),
             ("6k1/8/8/8/8/8/5PPP/r5K1 w - - 0 1", "CHECKMATE", jatshegi.BLACK, "0-1"),
             ("7k/8/6Q1/8/8/8/8/K7 b - -", "STALEMATE", None, "1/2-1/2"),
-            ("7k/8/8/8/8/8/8/K7 b - -", "DEAD_POSITION", None, "1/2-1/2"),
+            ("7k/8/8/8/8/8/8/K7 b - -", "INSUFFICIENT_MATERIAL", None, "1/2-1/2"),
             ("7k/8/6K1/8/8/8/R7/8 b - - 150 90", "SEVENTYFIVE_MOVES", None, "1/2-1/2"),
         ):
             outcome = jatshegi.Board(fen).outcome()
-            self.assertEqual((outcome, outcome.result()), ((jatshegi.Status[status], winner), result))
+            self.assertEqual((outcome, outcome.result()), ((jatshegi.Termination[status], winner), result))
         fifty = jatshegi.Board("7k/8/6K1/8/8/8/8/R7 w - - 99 90")
         self.assertEqual((fifty.claims(), fifty.claims(jatshegi.Move.from_uci("a1a2"))), ((False, False), (False, True)))
         fifty.push_san("Ra2")
-        self.assertEqual(fifty.outcome(claim_draw=True), (jatshegi.Status.FIFTY_MOVES, None))
+        self.assertEqual(fifty.outcome(claim_draw=True), (jatshegi.Termination.FIFTY_MOVES, None))
 
     def test_numbers(self):
         board = jatshegi.Board("6k1/5ppp/8/8/8/8/8/R5K1 w - - 0 1")
@@ -1083,6 +1083,11 @@ class ThePackage(unittest.TestCase):
                     self.assertEqual(it.__module__, module.__name__, name)
                 elif isinstance(it, type):
                     self.assertEqual((it.__module__, pickle.loads(pickle.dumps(it))), ("jatshegi", it), name)
+
+    def test_it_loads_little(self):
+        words = [sys.executable, "-c", "import sys, jatshegi; print(*({'ssl', 'email', 'http.client', 'urllib.request', 'xml', 'inspect', 'subprocess'} & set(sys.modules)))"]
+        ran = subprocess.run(words, env={**os.environ, "PYTHONPATH": PACKAGE}, capture_output=True, text=True)
+        self.assertEqual((ran.stdout.split(), ran.stderr), ([], ""))
 
     def test_one_version(self):
         with open(f"{runs.TOP}/VERSION", encoding="utf-8") as file:

@@ -133,6 +133,19 @@ class Engines(unittest.TestCase):
             lines = [line for line in told.read().decode().splitlines() if line]
             self.assertEqual(lines, ["setoption name " + it for it in ("Hash value 32", "Mode value a b", "Log File value x y", "Own value false", "Clear")])
 
+    def test_words_of_python_chess(self):
+        """Another `game` is told to the engine, `analyse` sets `options`, and `info` and `ponder` are accepted."""
+        board, limit = jatshegi.Board(), engine.Limit(depth=1)
+        with tempfile.TemporaryFile("w+") as said, fake("good", stderr=said) as it:
+            sent, send = [], it._send
+            it._send = lambda line: (sent.append(line), send(line))
+            for game in (None, "a", "a", "b"):
+                self.assertEqual(it.play(board, limit, game=game, info=engine.INFO_NONE, ponder=True).move.uci(), "e2e4")
+            it.analyse(board, limit, game="b", info=engine.INFO_SCORE | engine.Info.PV, options={"Hash": 32})
+            self.assertEqual(it.analyse(board, limit, multipv=1, info=engine.INFO_ALL)[0]["depth"], 3)
+            words = [line.split()[0] for line in sent]
+            self.assertEqual([words.count(word) for word in ("go", "ucinewgame", "setoption")], [6, 3, 1])
+
     def test_what_it_says(self):
         with fake("good") as it:
             result = it.play(jatshegi.Board(), engine.Limit(depth=1))

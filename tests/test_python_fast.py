@@ -119,13 +119,16 @@ class ThePartInC(unittest.TestCase):
 
     def test_boards_come_and_go(self):
         """Nothing of them is left, and a board begun again has forgotten what `push` made before."""
+        class Mine(jatshegi.Board):
+            pass
+
         def made(count):
             for _ in range(count):
-                board = jatshegi.Board()
+                board = Mine()
                 board.itself = board
                 board.push_san("e4")
             gc.collect()
-            return sys.getrefcount(jatshegi.Board), resource.getrusage(resource.RUSAGE_SELF).ru_maxrss
+            return sys.getrefcount(Mine), resource.getrusage(resource.RUSAGE_SELF).ru_maxrss
 
         first = made(2_000)
         then = made(10_000)

@@ -47,7 +47,7 @@ from ._pieces import Piece
 from ._sets import SquareSet
 from ._squares import *
 from ._squares import __all__ as _names
-from ._status import Outcome, Status
+from ._status import Outcome, Status, Termination
 from ._tags import Tags
 
 __version__ = "0.2.0"
@@ -81,6 +81,7 @@ __all__ = [
     "SquareSet",
     "Status",
     "Tags",
+    "Termination",
     "parse_square",
     "pgn",
     "polyglot",

@@ -16,7 +16,7 @@ from ._habits import Habits
 from ._moves import BLACK, SQUARE_NAMES, STARTING_FEN, WHITE, Move
 from ._pieces import BY_LETTER, Piece
 from ._sets import SquareSet
-from ._status import Outcome, Status
+from ._status import TERMINATIONS, Outcome, Status, Termination
 from ._stops import ANY_NUMBER, Flag, run, stoppable
 from ._tags import Tags
 
@@ -73,6 +73,16 @@ _STATUSES = tuple(Status)
 _Board = TypeVar("_Board", bound="Board")
 
 
+class _Signature:
+    """The signature of a class as its `__init__` has it: `__new__` of a board takes any words, so that the classes of callers do."""
+
+    def __get__(self, board: object, of: Type[Any]) -> Any:
+        import inspect
+
+        _, *words = inspect.signature(of.__init__).parameters.values()
+        return inspect.Signature(words)
+
+
 class Board(Core, Calls, Habits):
     """A board: a position, and the moves that led to it from the one in which the game began.
 
@@ -84,14 +94,20 @@ class Board(Core, Calls, Habits):
     thread may use a board; where another one is in a call of it, a call waits.
     """
 
+    # (an attribute that a board doesn't have is an error; a class of the caller's own has those that it sets)
+    __slots__ = ("__weakref__", "_at", "_searches", "encoding")
+    __signature__ = _Signature()
+
     def __new__(cls: Type[_Board], *words: Any, **named: Any) -> _Board:
         self = super().__new__(cls)
         self._at = byref(c.Slot.from_address(self._address))
         return self
 
-    def __init__(self, fen: Optional[str] = None, *, encoding: str = "utf-8") -> None:
+    def __init__(self, fen: str = STARTING_FEN, *, encoding: str = "utf-8") -> None:
         """A board with that position, or as a game begins. Raises `InvalidFenError`. The encoding is that of the texts of `line` and `pgn()`, whose bytes
         the board keeps; a byte that it doesn't have is a lone surrogate, as `errors="surrogateescape"` reads and writes it."""
+        if fen is None:
+            raise TypeError("a board has a position, with both kings: Board() begins a game, Board(fen) has the position of a FEN; there is no empty board")
         #: The encoding of the board's texts.
         self.encoding = _known(encoding)
         with self._lock:
@@ -99,7 +115,7 @@ class Board(Core, Calls, Habits):
                 raise MemoryError("no memory for a board")
             self._searches = 0
             self._made.clear()
-            if fen is not None:
+            if fen != STARTING_FEN:
                 self.set_fen(fen)
 
     @classmethod
@@ -154,26 +170,30 @@ class Board(Core, Calls, Habits):
             if status:
                 raise self._fail(status, "copy")
             other.encoding, other._searches, other._made[:] = self.encoding, 0, self._made
-            other.__dict__.update(self._state())
+            other._keep(self._state())
         return other
 
     # What a class of the caller's own keeps besides.
     def _state(self) -> Dict[str, Any]:
-        return {name: it for name, it in self.__dict__.items() if name not in _FIELDS}
+        return getattr(self, "__dict__", {})
+
+    def _keep(self, state: Dict[str, Any]) -> None:
+        if state:
+            self.__dict__.update(state)
 
     def __copy__(self: _Board) -> _Board:
         return self.copy()
 
     def __deepcopy__(self: _Board, memo: Dict[int, Any]) -> _Board:
         other = memo[id(self)] = self.copy()
-        other.__dict__.update(copy.deepcopy(self._state(), memo))
+        other._keep(copy.deepcopy(self._state(), memo))
         return other
 
     # For pickle: a function that makes the board anew, its words, and what else a class of the caller's own keeps.
-    def __reduce__(self) -> Tuple[Callable[..., Any], Tuple[Any, ...], Dict[str, Any]]:
+    def __reduce__(self) -> Tuple[Callable[..., Any], Tuple[Any, ...], Optional[Dict[str, Any]]]:
         with self._lock:
             words = type(self), self.encoding, self._game(), self._bytes(b"path"), tuple(self._made)
-            state = self._state()
+            state = self._state() or None
         # A board that can't be made anew isn't written.
         _restored(*words)
         return _restored, words, state
@@ -264,26 +284,41 @@ class Board(Core, Calls, Habits):
         >>> Board("8/8/8/K1pP3r/8/8/8/4k3 w - c6 0 2").ep_square
         42
         """
-        target = self._fields().target
+        target = self._position().target
         return None if target == c.NO_SQUARE else int(target)
 
-    def has_kingside_castling_rights(self, colour: bool) -> bool:
-        """Whether that side may still castle with the rook of file h (FIDE Laws 3.8.2.1)."""
-        return bool(self._fields().castling & (1 if colour_of(colour) else 4))
+    @property
+    def castling_rights(self) -> int:
+        """The squares of the rooks with which a side may still castle, as a word of 64 bits; `set_fen` sets them.
 
-    def has_queenside_castling_rights(self, colour: bool) -> bool:
+        >>> SquareSet(Board().castling_rights) == {jatshegi.A1, jatshegi.H1, jatshegi.A8, jatshegi.H8}
+        True
+        """
+        rights = self._position().castling
+        return sum(1 << square for bit, square in ((1, 7), (2, 0), (4, 63), (8, 56)) if rights & bit)
+
+    @property
+    def chess960(self) -> bool:
+        """False: no board has a position of Chess960."""
+        return False
+
+    def has_kingside_castling_rights(self, color: bool) -> bool:
+        """Whether that side may still castle with the rook of file h (FIDE Laws 3.8.2.1)."""
+        return bool(self._position().castling & (1 if colour_of(color) else 4))
+
+    def has_queenside_castling_rights(self, color: bool) -> bool:
         """The same with the rook of file a."""
-        return bool(self._fields().castling & (2 if colour_of(colour) else 8))
+        return bool(self._position().castling & (2 if colour_of(color) else 8))
 
     @property
     def halfmove_clock(self) -> int:
         """How many plies there were since the last pawn's move or capture (PGN 16.1.3.5)."""
-        return int(self._fields().clock)
+        return int(self._position().clock)
 
     @property
     def fullmove_number(self) -> int:
         """The number of the move, one more after each move of Black (PGN 16.1.3.6)."""
-        return int(self._fields().number)
+        return int(self._position().number)
 
     # ---- moves
 
@@ -326,20 +361,18 @@ class Board(Core, Calls, Habits):
         moves, on the board or after a legal move (FIDE Laws 9.2, 9.3).
 
         >>> Board("7k/8/6Q1/8/8/8/8/K7 b - -").outcome()
-        Outcome(termination=<Status.STALEMATE: 1>, winner=None)
+        Outcome(termination=<Termination.STALEMATE: 2>, winner=None)
         """
         if not claim_draw and self._outcome() == Status.PLAY:
             return None
         with self._lock:
             status = self.status
-            if status == Status.CHECKMATE:
-                return Outcome(status, not self.turn)
             if status != Status.PLAY:
-                return Outcome(status, None)
+                return Outcome(TERMINATIONS[status], not self.turn if status == Status.CHECKMATE else None)
             if claim_draw and self.can_claim_fifty_moves():
-                return Outcome(Status.FIFTY_MOVES, None)
+                return Outcome(Termination.FIFTY_MOVES, None)
             if claim_draw and self.can_claim_threefold_repetition():
-                return Outcome(Status.THREEFOLD_REPETITION, None)
+                return Outcome(Termination.THREEFOLD_REPETITION, None)
             return None
 
     def has_insufficient_material(self, color: bool) -> bool:
@@ -367,22 +400,22 @@ class Board(Core, Calls, Habits):
         """How often the position has come up in the game, this time included (FIDE Laws 9.2.2)."""
         return self._number(c.lib.jatshegi_board_repetitions, "repetitions")
 
-    def attackers(self, colour: bool, square: int) -> SquareSet:
+    def attackers(self, color: bool, square: int) -> SquareSet:
         """The squares of the men of that colour that attack the square, whatever is on it: a king and pinned men too, but no man that another
         is in the way of (FIDE Laws 3.1 to 3.8). Raises `ValueError` for a number that is no square's.
 
         >>> [SQUARE_NAMES[square] for square in Board().attackers(WHITE, 21)]
         ['g1', 'e2', 'g2']
         """
-        return SquareSet(self._attacks(square_of(square) + (0 if colour_of(colour) else 64)))
+        return SquareSet(self._attacks(square_of(square) + (0 if colour_of(color) else 64)))
 
-    def attack_counts(self, colour: bool) -> List[int]:
+    def attack_counts(self, color: bool) -> List[int]:
         """For each square, a1 first, how many men of that colour attack it (FIDE Laws 3.1.2).
 
         >>> Board().attack_counts(WHITE)[16:24]
         [2, 2, 3, 2, 2, 3, 2, 2]
         """
-        is_white, white, black = colour_of(colour), _Squares(), _Squares()
+        is_white, white, black = colour_of(color), _Squares(), _Squares()
         self._call(c.lib.jatshegi_board_counts, "attack_counts", white, black)
         return list(bytes(white if is_white else black))
 
@@ -615,10 +648,6 @@ class Board(Core, Calls, Habits):
 
         last = self.peek() if self.ply else None
         return svg.board(self, lastmove=last, check=self.king(self.turn) if self.is_check() else None, size=390)
-
-
-# What a board keeps beside what a class of the caller's own adds.
-_FIELDS = frozenset(("_slot", "_at", "_lock", "_searches", "_made", "encoding"))
 
 
 def _restored(of: Type[_Board], encoding: str, text: bytes, path: bytes, made: Tuple[bool, ...]) -> _Board:

@@ -10,7 +10,7 @@ from typing import TYPE_CHECKING, Any, Callable, Dict, List, NoReturn, Type, Typ
 
 from . import _library as c
 from ._errors import AmbiguousMoveError, EmptyBoardError, Error, IllegalMoveError, InvalidMoveError, LimitError
-from ._moves import BLACK, WHITE, Move
+from ._moves import BLACK, WHITE, LegalMoves, Move
 from ._stops import LentLock
 
 _Plain = TypeVar("_Plain", bound="Plain")
@@ -50,6 +50,8 @@ def numbers_of(move: Move) -> c.CMove:
 
 class Calls:
     """How a board calls on the library, and what it says where that refuses something."""
+
+    __slots__ = ()
 
     if TYPE_CHECKING:
         _at: Any
@@ -95,7 +97,7 @@ class Calls:
             self._raise(status, what)
 
     # The position's six fields.
-    def _fields(self) -> c.CPosition:
+    def _position(self) -> c.CPosition:
         position = c.CPosition()
         self._call(c.lib.jatshegi_board_position, "position", byref(position))
         return position
@@ -110,11 +112,13 @@ _FenRoom, _SanRoom, _Squares = c_char * c.MOST_FEN, c_char * c.MOST_SAN, c_uint8
 class Plain:
     """A board of the library, its lock, and the calls that are made most often, by ctypes."""
 
+    __slots__ = ("_at", "_lock", "_made", "_slot")
+
     if TYPE_CHECKING:
 
         def _raise(self, status: int, what: object) -> NoReturn: ...
         def _call(self, function: Callable[..., int], what: object, *words: object) -> None: ...
-        def _fields(self) -> c.CPosition: ...
+        def _position(self) -> c.CPosition: ...
 
     # The board, its lock, and of the last steps to the cursor what `push` was answered: whether it added a node. Shorter than the way to the cursor where something
     # else led there; of those steps `pop` takes no node out. While a call may move the cursor it is empty, so it is empty after an exception (as by Ctrl-C).
@@ -148,10 +152,10 @@ class Plain:
     @property
     def turn(self) -> bool:
         """The colour of the side to move: WHITE or BLACK."""
-        return WHITE if self._fields().side == 0 else BLACK
+        return WHITE if self._position().side == 0 else BLACK
 
     def _men(self) -> bytes:
-        return bytes(self._fields().men)
+        return bytes(self._position().men)
 
     def fen(self) -> str:
         """The position's FEN, with all six fields (PGN 16.1). The en passant target is written wherever a pawn has just passed over it."""
@@ -160,9 +164,9 @@ class Plain:
         return text.raw[: count.value].decode()
 
     @property
-    def legal_moves(self) -> List[Move]:
+    def legal_moves(self) -> LegalMoves:
         """The legal moves (FIDE Laws 3.1 to 3.10), by the square that they begin on, then by the one that they end on."""
-        return self._moves(c.lib.jatshegi_board_moves, "legal_moves")
+        return LegalMoves(self._moves(c.lib.jatshegi_board_moves, "legal_moves"))
 
     @property
     def move_stack(self) -> List[Move]:
@@ -194,7 +198,7 @@ class Plain:
         self._call(c.lib.jatshegi_board_kinds, move, numbers_of(move), byref(number))
         return number.value
 
-    def push(self, move: Move) -> None:
+    def push(self, move: Move, /) -> None:
         """Makes the move: steps to its node, which is added where there is none. Raises `IllegalMoveError`, or `LimitError` after 20,000 plies."""
         numbers, added = numbers_of(move), c_bool()
         with self._lock:
@@ -246,7 +250,7 @@ class Plain:
             self._raise(status, "pop")
         return SHOWN[bytes(move)]
 
-    def parse_san(self, san: str) -> Move:
+    def parse_san(self, san: str, /) -> Move:
         """The legal move that the text names in standard algebraic notation (PGN 8.2.3). Raises as `push_san`."""
         if not isinstance(san, str):
             raise TypeError(f"a move's text is a text, as 'Nf3': {san!r}")
@@ -254,7 +258,7 @@ class Plain:
         self._call(_read, san, text, len(text), byref(move))
         return SHOWN[bytes(move)]
 
-    def san(self, move: Move) -> str:
+    def san(self, move: Move, /) -> str:
         """The move's text in standard algebraic notation (PGN 8.2.3). Raises `IllegalMoveError`.
 
         >>> jatshegi.Board("k7/7P/8/8/8/8/8/K7 w - -").san(Move.from_uci("h7h8q"))
@@ -307,7 +311,7 @@ def _found() -> Any:
     except ImportError:
         return None
     names = ("play", "undo", "move", "moves", "line", "read", "write", "checks", "attackers", "outcome", "position", "fen", "kinds", "free")
-    _fast.begin({name: cast(getattr(c.lib, f"jatshegi_board_{name}"), c_void_p).value for name in names}, Move, Error)
+    _fast.begin({name: cast(getattr(c.lib, f"jatshegi_board_{name}"), c_void_p).value for name in names}, Move, Error, LegalMoves)
     return _fast
 
 

@@ -121,6 +121,21 @@ class Edits:
         if comment is not None or nags:
             self._edit(call)
 
+    def annotate(self, node: Node, nags: Sequence[int]) -> None:
+        """These annotations for a node in the place of those that it has; all of them, or the same as before where something is refused."""
+
+        def call() -> None:
+            self._lead(node)
+            # The library takes all out, so where some are added again it is done on a copy.
+            board = self._board.copy() if nags else self._board
+            board._call(c.lib.jatshegi_board_clear_annotations, "nags")
+            self._speak(board, None, nags)
+            self._board = board
+            self._see(node)
+            self._game._is_changed()
+
+        self._edit(call)
+
     # Says it at the cursor of a board.
     def _speak(self, board: Board, comment: Optional[str], nags: Iterable[int]) -> None:
         if comment is not None:

@@ -26,8 +26,8 @@
 FUNCTIONS(POINTER)
 static void (*lib_free)(struct jatshegi_board *);
 
-/* The package's class of errors, that of a move, and each move by its three numbers, made when it is first seen. */
-static PyObject *error_class, *move_class;
+/* The package's class of errors, that of a move, that of the legal moves, and each move by its three numbers, made when it is first seen. */
+static PyObject *error_class, *move_class, *legal_class;
 static PyObject *moves[64 * 64 * 5];
 
 /* The address that a table of Python's has by a name; NULL with an exception where it has none. */
@@ -39,9 +39,9 @@ static void *address_of(PyObject *table, const char *name) {
 }
 
 static PyObject *begin(PyObject *module, PyObject *words) {
-    PyObject *table, *class, *error;
+    PyObject *table, *class, *error, *legal;
     (void)module;
-    if (!PyArg_ParseTuple(words, "OOO", &table, &class, &error)) return NULL;
+    if (!PyArg_ParseTuple(words, "OOOO", &table, &class, &error, &legal)) return NULL;
 #define TAKE(name) \
     if ((lib_##name = (__typeof__(&jatshegi_board_##name))address_of(table, #name)) == NULL) return NULL;
     FUNCTIONS(TAKE)
@@ -52,6 +52,9 @@ static PyObject *begin(PyObject *module, PyObject *words) {
     Py_INCREF(error);
     Py_XDECREF(error_class);
     error_class = error;
+    Py_INCREF(legal);
+    Py_XDECREF(legal_class);
+    legal_class = legal;
     Py_RETURN_NONE;
 }
 
@@ -329,7 +332,10 @@ static PyObject *core_legal_moves(Core *self, void *unused) {
     size_t count;
     (void)unused;
     CALL(lib_moves(&self->board, found, JATSHEGI_MOST_MOVES, &count));
-    return status ? failed_at(self, status, "legal_moves") : list_of(found, count);
+    if (status) return failed_at(self, status, "legal_moves");
+    PyObject *list = list_of(found, count), *legal = list == NULL ? NULL : PyObject_CallFunctionObjArgs(legal_class, list, NULL);
+    Py_XDECREF(list);
+    return legal;
 }
 
 static PyObject *core_move_stack(Core *self, void *unused) {
@@ -619,7 +625,7 @@ static PyObject *tags(PyObject *module, PyObject *given) {
 /* ---- the module */
 
 static PyMethodDef functions[] = {
-    {"begin", begin, METH_VARARGS, "Takes the addresses of the library's functions by their names, and the classes of a move and of an error. Comes before all else."},
+    {"begin", begin, METH_VARARGS, "Takes the addresses of the library's functions by their names, and the classes of a move, of an error and of the legal moves. Comes before all else."},
     {"words", words, METH_VARARGS, "As `words` of jatshegi/_texts.py."},
     {"tags", tags, METH_VARARGS, "As `tags` of jatshegi/_texts.py."},
     {NULL, NULL, 0, NULL},

@@ -130,3 +130,20 @@ class Move(_Parts):
             return f"Move.from_uci({SQUARE_NAMES[square_of(origin)] + SQUARE_NAMES[square_of(target)] + ('' if became is None else _LETTERS[became])!r})"
         except (ValueError, KeyError):
             return f"Move({origin}, {target}, {became})"
+
+
+_ALL = object()
+
+
+class LegalMoves(List[Move]):
+    """The legal moves of a position: a list, whose `count()` is how many there are."""
+
+    __slots__ = ()
+
+    def count(self, move: Any = _ALL, /) -> int:
+        """The number of moves; with a move, 1 if it is among them, and 0 otherwise.
+
+        >>> jatshegi.Board().legal_moves.count()
+        20
+        """
+        return len(self) if move is _ALL else super().count(move)

@@ -1,12 +1,12 @@
 """The nodes of a game: a move each, with what is said of it and what follows."""
 from __future__ import annotations
 
-from typing import TYPE_CHECKING, AbstractSet, Any, Callable, Iterable, Iterator, List, Optional, Sequence, Tuple, TypeVar, Union, cast, overload
+from typing import TYPE_CHECKING, AbstractSet, Any, Callable, Generic, Iterable, Iterator, List, Optional, Sequence, Tuple, TypeVar, Union, cast, overload
 
 from ._board import Board
 from ._checks import one_of
 from ._errors import AmbiguousMoveError, IllegalMoveError, InvalidMoveError
-from ._moves import Move
+from ._moves import STARTING_FEN, Move
 
 if TYPE_CHECKING:
     from ._visitors import BaseVisitor
@@ -31,13 +31,49 @@ def _text_of(comment: str) -> str:
     return comment
 
 
+class Mainline(Generic[_T]):
+    """The nodes, or their moves, that follow a node along the first children, as the game has them at each moment. You can go through it more than once; it is
+    false if nothing follows. Its text is the moves with their annotations and comments, without variations.
+
+    >>> line = jatshegi.pgn.read_game("1. e4 e5 (1... c5) 2. Nf3 {so} *").mainline_moves()
+    >>> len(line), [move.uci() for move in reversed(line)], str(line)
+    (3, ['g1f3', 'e7e5', 'e2e4'], '1. e4 e5 2. Nf3 {so}')
+    """
+
+    __slots__ = ("_count", "_found", "_node")
+
+    def __init__(self, node: Node, found: Callable[[], Iterator[_T]], count: Callable[[], int]) -> None:
+        self._node, self._found, self._count = node, found, count
+
+    def __iter__(self) -> Iterator[_T]:
+        return self._found()
+
+    def __reversed__(self) -> Iterator[_T]:
+        return reversed(list(self))
+
+    def __len__(self) -> int:
+        return self._count()
+
+    def __str__(self) -> str:
+        from ._visitors import StringExporter
+
+        first = self._node.next()
+        return "" if first is None else first.accept(StringExporter(variations=False, columns=None))
+
+    def __repr__(self) -> str:
+        return f"<Mainline {self}>"
+
+
 class Nags(Sequence[int]):
-    """The annotations of a node (PGN 8.2.4), in the order of the text, as the node has them at each moment. One may be added, and none taken out.
+    """The annotations of a node (PGN 8.2.4), in the order of the text, as the node has them at each moment. They can be added and taken out.
 
     >>> node = jatshegi.pgn.read_game("1. e4 $1 *").next()
     >>> node.nags.add(14)
     >>> node.nags, 14 in node.nags, node.nags == {1, 14}
     ((1, 14), True, True)
+    >>> node.nags.discard(1)
+    >>> node.nags
+    (14,)
     """
 
     __slots__ = ("_node",)
@@ -76,13 +112,24 @@ class Nags(Sequence[int]):
         self._node.game()._edits_of().say(self._node, None, [it for it in numbers if it not in self])
 
     def remove(self, nag: int) -> None:
-        """Raises `ValueError`: no annotation is taken out. `remove_variation`, and the moves played again, are a node without it."""
-        raise ValueError(f"an annotation isn't taken out, but with its move: {nag}")
+        """Takes an annotation out. Raises `KeyError` if it isn't there."""
+        if _number_of(nag) not in self:
+            raise KeyError(nag)
+        self.discard(nag)
 
     def discard(self, nag: int) -> None:
-        """Raises `ValueError` where it is there."""
-        if nag in self:
-            self.remove(nag)
+        """Takes an annotation out, if it is there."""
+        if _number_of(nag) in self:
+            self._leave([it for it in self if it != nag])
+
+    def clear(self) -> None:
+        """Takes all annotations out."""
+        if self:
+            self._leave([])
+
+    # Has the node these alone.
+    def _leave(self, nags: Sequence[int]) -> None:
+        self._node.game()._edits_of().annotate(self._node, nags)
 
     def __repr__(self) -> str:
         return repr(self._node._nags)
@@ -138,7 +185,7 @@ class Node:
         >>> jatshegi.pgn.read_game("1. e4 e5 *").end().board().ply
         2
         """
-        board = Board(self.game().start)
+        board = Board(self.game().start or STARTING_FEN)
         for san in self.path():
             board.push_san(san)
         return board
@@ -176,17 +223,16 @@ class Node:
 
     @property
     def nags(self) -> Nags:
-        """Annotation numbers (PGN 8.2.4), to which others can be added. Where they are set those that aren't there are added; raises `ValueError` where one
-        would go."""
+        """Annotation numbers (PGN 8.2.4), which can be added and taken out. When they are set, those that the node has keep their order, and others follow."""
         return Nags(self)
 
     @nags.setter
     def nags(self, nags: Iterable[int]) -> None:
-        numbers = list(nags)
-        for nag in self._nags:
-            if nag not in numbers:
-                self.nags.remove(nag)
-        self.nags.update(numbers)
+        numbers = dict.fromkeys(map(_number_of, nags))
+        if set(self._nags) <= set(numbers):
+            self.nags.update(numbers)
+        else:
+            self.nags._leave([*(it for it in self._nags if it in numbers), *(it for it in numbers if it not in self._nags)])
 
     def add_nag(self, nag: int) -> None:
         """One annotation more, unless it is there, as `nags.add`."""
@@ -262,26 +308,35 @@ class Node:
         self._children = [*self._children, child]
         return child
 
-    def mainline(self) -> Iterator[Node]:
+    def mainline(self) -> Mainline[Node]:
         """The nodes that follow along the first children.
 
         >>> game = jatshegi.pgn.read_game("1. e4 e5 (1... c5) 2. Nf3 *")
         >>> " ".join(node.san for node in game.root.mainline())
         'e4 e5 Nf3'
         """
+        return Mainline(self, self._following, self._following_count)
+
+    def _following(self) -> Iterator[Node]:
         node = self
         while node._children:
             node = node._children[0]
             yield node
 
-    def mainline_moves(self) -> Iterator[Move]:
+    def _following_count(self) -> int:
+        return sum(1 for _ in self._following())
+
+    def mainline_moves(self) -> Mainline[Move]:
         """The moves that follow along the first children.
 
         >>> [move.uci() for move in jatshegi.pgn.read_game("1. e4 e5 2. Nf3 *").root.mainline_moves()]
         ['e2e4', 'e7e5', 'g1f3']
         """
+        return Mainline(self, self._following_moves, self._following_count)
+
+    def _following_moves(self) -> Iterator[Move]:
         board = self.board()
-        for node in self.mainline():
+        for node in self._following():
             assert node._san is not None
             yield board.push_san(node._san)
 

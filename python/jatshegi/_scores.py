@@ -1,6 +1,7 @@
 """What an engine says of a position: scores, lines and limits, under the names of python-chess."""
 from __future__ import annotations
 
+from enum import IntFlag
 from functools import total_ordering
 from typing import Dict, List, NamedTuple, Optional, Tuple, TypedDict, Union
 
@@ -104,6 +105,18 @@ class PovScore(NamedTuple):
     def is_mate(self) -> bool:
         """Whether it is a mate."""
         return self.relative.is_mate()
+
+
+class Info(IntFlag):
+    """Kinds of information, by the names of python-chess. A search returns every kind."""
+
+    NONE = 0
+    BASIC = 1
+    SCORE = 2
+    PV = 4
+    REFUTATION = 8
+    CURRLINE = 16
+    ALL = 31
 
 
 class InfoDict(TypedDict, total=False):

@@ -1,24 +1,35 @@
 """Sets of squares."""
 from __future__ import annotations
 
-from typing import Any, Iterable, Iterator, List, MutableSet, Union
+from typing import Iterable, Iterator, List, MutableSet, Union
 
 from ._checks import square_of, whole
 
 ALL = 0xFFFFFFFFFFFFFFFF
 
+# What a set of squares is made of: a word of 64 bits, or the squares' numbers.
+Squares = Union[int, Iterable[int]]
+
+
+def _mask(squares: Squares) -> int:
+    """The word of squares."""
+    return SquareSet(squares).mask
+
 
 class SquareSet(MutableSet[int]):
     """A set of squares, in ascending order; a set of numbers of 0 to 63, and a word of 64 bits in which the bit of each of its squares is 1, the lowest for a1.
+    It goes together with both: with sets of numbers, and with words.
 
     >>> corners = SquareSet([jatshegi.A1, jatshegi.H1, jatshegi.A8, jatshegi.H8])
     >>> corners, len(corners), jatshegi.A1 in corners, list(corners & SquareSet(0xFF))
     (SquareSet(0x8100_0000_0000_0081), 4, True, [0, 7])
+    >>> corners & 0xFF, corners >> 56 == 0x81, corners == {0, 7, 56, 63}
+    (SquareSet(0x81), True, True)
     """
 
     __slots__ = ("mask",)
 
-    def __init__(self, squares: Union[int, Iterable[int]] = 0) -> None:
+    def __init__(self, squares: Squares = 0) -> None:
         """The set of these squares, or of the squares whose bits are 1. Raises `ValueError` for what is no square's, or no word's."""
         self.mask: int = 0
         if isinstance(squares, int):
@@ -83,26 +94,56 @@ class SquareSet(MutableSet[int]):
         """The squares as the other player sees them: the ranks turned round."""
         return SquareSet(int.from_bytes(self.mask.to_bytes(8, "little"), "big"))
 
-    def union(self, *others: Iterable[int]) -> "SquareSet":
+    def union(self, *others: Squares) -> "SquareSet":
         """The squares of any of them."""
-        return SquareSet([*self, *(square for other in others for square in other)])
+        found = self.copy()
+        found.update(*others)
+        return found
 
-    def intersection(self, *others: Iterable[int]) -> "SquareSet":
+    def intersection(self, *others: Squares) -> "SquareSet":
         """The squares of all of them."""
-        mask = self.mask
-        for other in others:
-            mask &= SquareSet(other).mask
-        return SquareSet(mask)
+        found = self.copy()
+        found.intersection_update(*others)
+        return found
 
-    def difference(self, *others: Iterable[int]) -> "SquareSet":
+    def difference(self, *others: Squares) -> "SquareSet":
         """The squares of this one that are in no other."""
-        return SquareSet(self.mask & ~SquareSet().union(*others).mask)
+        found = self.copy()
+        found.difference_update(*others)
+        return found
 
-    def issubset(self, other: Iterable[int]) -> bool:
+    def symmetric_difference(self, other: Squares) -> "SquareSet":
+        """The squares that are in one of the two sets only."""
+        return SquareSet(self.mask ^ _mask(other))
+
+    def update(self, *others: Squares) -> None:
+        """Adds the squares of the others."""
+        for other in others:
+            self.mask |= _mask(other)
+
+    def intersection_update(self, *others: Squares) -> None:
+        """Keeps the squares that are in all others."""
+        for other in others:
+            self.mask &= _mask(other)
+
+    def difference_update(self, *others: Squares) -> None:
+        """Takes the squares of the others out."""
+        for other in others:
+            self.mask &= ~_mask(other)
+
+    def symmetric_difference_update(self, other: Squares) -> None:
+        """Keeps the squares that are in one of the two sets only."""
+        self.mask ^= _mask(other)
+
+    def isdisjoint(self, other: Squares) -> bool:
+        """Whether no square is in both."""
+        return not self.mask & _mask(other)
+
+    def issubset(self, other: Squares) -> bool:
         """Whether each square is one of the other's."""
-        return not self.mask & ~SquareSet(other).mask
+        return not self.mask & ~_mask(other)
 
-    def issuperset(self, other: Iterable[int]) -> bool:
+    def issuperset(self, other: Squares) -> bool:
         """Whether each of the other's squares is one of these."""
         return SquareSet(other).issubset(self)
 
@@ -110,13 +151,47 @@ class SquareSet(MutableSet[int]):
         """For each of the 64 squares, whether it is in the set."""
         return [square in self for square in range(64)]
 
-    # (what the operators of a set make)
-    @classmethod
-    def _from_iterable(cls, squares: Iterable[Any]) -> "SquareSet":
-        return cls(squares)
+    def __or__(self, other: Squares) -> "SquareSet":  # type: ignore[override]
+        return self.union(other) if isinstance(other, (int, Iterable)) else NotImplemented
+
+    def __and__(self, other: Squares) -> "SquareSet":
+        return self.intersection(other) if isinstance(other, (int, Iterable)) else NotImplemented
+
+    def __xor__(self, other: Squares) -> "SquareSet":  # type: ignore[override]
+        return self.symmetric_difference(other) if isinstance(other, (int, Iterable)) else NotImplemented
+
+    def __sub__(self, other: Squares) -> "SquareSet":
+        return self.difference(other) if isinstance(other, (int, Iterable)) else NotImplemented
+
+    def __rsub__(self, other: Squares) -> "SquareSet":
+        return SquareSet(other) - self if isinstance(other, (int, Iterable)) else NotImplemented
+
+    __ror__, __rand__, __rxor__ = __or__, __and__, __xor__
+
+    def __ior__(self, other: Squares) -> "SquareSet":  # type: ignore[override]
+        self.update(other)
+        return self
+
+    def __iand__(self, other: Squares) -> "SquareSet":
+        self.intersection_update(other)
+        return self
+
+    def __ixor__(self, other: Squares) -> "SquareSet":  # type: ignore[override]
+        self.symmetric_difference_update(other)
+        return self
+
+    def __isub__(self, other: Squares) -> "SquareSet":
+        self.difference_update(other)
+        return self
+
+    def __lshift__(self, shift: int) -> "SquareSet":
+        return SquareSet(self.mask << shift & ALL)
+
+    def __rshift__(self, shift: int) -> "SquareSet":
+        return SquareSet(self.mask >> shift)
 
     def __eq__(self, other: object) -> bool:
-        return self.mask == other.mask if isinstance(other, SquareSet) else super().__eq__(other)
+        return self.mask == int(other) if isinstance(other, (int, SquareSet)) else super().__eq__(other)
 
     # (it can be changed)
     __hash__ = None  # type: ignore[assignment]

@@ -25,7 +25,7 @@ from ._board import Board
 from ._engine import Engine
 from ._errors import Error, InvalidMoveError
 from ._moves import STARTING_FEN, Move
-from ._scores import Cp, InfoDict, Limit, Mate, MateGiven, Option, PlayResult, PovScore, Score, info_of, option_of, parts_of
+from ._scores import Cp, Info, InfoDict, Limit, Mate, MateGiven, Option, PlayResult, PovScore, Score, info_of, option_of, parts_of
 
 __all__ = [
     "Cp",
@@ -33,6 +33,14 @@ __all__ = [
     "EngineError",
     "EngineTerminatedError",
     "EngineTimeoutError",
+    "INFO_ALL",
+    "INFO_BASIC",
+    "INFO_CURRLINE",
+    "INFO_NONE",
+    "INFO_PV",
+    "INFO_REFUTATION",
+    "INFO_SCORE",
+    "Info",
     "InfoDict",
     "Limit",
     "Mate",
@@ -57,6 +65,14 @@ class EngineTimeoutError(EngineError, TimeoutError):
     """An engine doesn't answer in time."""
 
 
+INFO_NONE, INFO_BASIC, INFO_SCORE, INFO_PV, INFO_REFUTATION, INFO_CURRLINE, INFO_ALL = (
+    *(Info.NONE, Info.BASIC, Info.SCORE, Info.PV),
+    *(Info.REFUTATION, Info.CURRLINE, Info.ALL),
+)
+
+# The values of options by their names.
+Options = Mapping[str, Union[str, int, bool, None]]
+
 # Options that calls set themselves.
 _OWN = ("multipv", "ponder")
 
@@ -70,6 +86,8 @@ class SimpleEngine:
         self._lock, self._timeout, self._left = threading.RLock(), timeout, b""
         # Whether the answer to a search is still to come that an exception has left.
         self._is_owed = False
+        # What names the game of the last search.
+        self._game: object = None
         self._told: Dict[str, str] = {}
         #: What the engine says of itself, as its name and author; and its options by their names.
         self.id: Dict[str, str] = {}
@@ -177,7 +195,7 @@ class SimpleEngine:
             self._send("isready")
             self._skip("readyok", self._deadline())
 
-    def configure(self, options: Mapping[str, Union[str, int, bool, None]]) -> None:
+    def configure(self, options: Options) -> None:
         """Sets options by their names. Raises `EngineError` for one that the engine doesn't have or that calls set, and `ValueError` for another value than
         it takes; none is set then."""
         with self._lock:
@@ -201,29 +219,79 @@ class SimpleEngine:
             self._send(f"setoption name {name} value {text}" if text else f"setoption name {name}")
             self._told[name] = text
 
-    def play(self, board: Board, limit: Limit, *, root_moves: Optional[Iterable[Move]] = None, options: Mapping[str, Union[str, int, bool, None]] = {}) -> PlayResult:
-        """The move that the engine plays. Raises `EngineError` for one that isn't legal."""
+    def play(
+        self,
+        board: Board,
+        limit: Limit,
+        *,
+        game: object = None,
+        info: Info = INFO_ALL,
+        ponder: bool = False,
+        root_moves: Optional[Iterable[Move]] = None,
+        options: Options = {},
+    ) -> PlayResult:
+        """The move that the engine plays. Raises `EngineError` for one that isn't legal. If `game` is another object than in the last call, the engine is told that a
+        game begins. `info` and `ponder` change nothing: all information is there, and between calls the engine doesn't search."""
         with self._lock:
+            self._begin_game(game)
             self.configure(options)
             infos, words = self._searched(board, limit, 1, root_moves)
             move = self._move(board, words[1] if len(words) > 1 else "")
-            ponder = None
+            awaited = None
             if move is not None and words[2:3] == ["ponder"] and len(words) > 3:
                 after = board.copy()
                 after.push(move)
-                ponder = self._move(after, words[3])
-            return PlayResult(move, ponder, infos[0])
+                awaited = self._move(after, words[3])
+            return PlayResult(move, awaited, infos[0])
+
+    # Tells the engine that another game begins, where it does.
+    def _begin_game(self, game: object) -> None:
+        self._settle()
+        if game != self._game:
+            self._send("ucinewgame")
+            self.ping()
+            self._game = game
 
     @overload
-    def analyse(self, board: Board, limit: Limit, *, multipv: None = None, root_moves: Optional[Iterable[Move]] = None) -> InfoDict: ...
-    @overload
-    def analyse(self, board: Board, limit: Limit, *, multipv: int, root_moves: Optional[Iterable[Move]] = None) -> List[InfoDict]: ...
     def analyse(
-        self, board: Board, limit: Limit, *, multipv: Optional[int] = None, root_moves: Optional[Iterable[Move]] = None
+        self,
+        board: Board,
+        limit: Limit,
+        *,
+        multipv: None = None,
+        game: object = None,
+        info: Info = INFO_ALL,
+        root_moves: Optional[Iterable[Move]] = None,
+        options: Options = {},
+    ) -> InfoDict: ...
+    @overload
+    def analyse(
+        self,
+        board: Board,
+        limit: Limit,
+        *,
+        multipv: int,
+        game: object = None,
+        info: Info = INFO_ALL,
+        root_moves: Optional[Iterable[Move]] = None,
+        options: Options = {},
+    ) -> List[InfoDict]: ...
+    def analyse(
+        self,
+        board: Board,
+        limit: Limit,
+        *,
+        multipv: Optional[int] = None,
+        game: object = None,
+        info: Info = INFO_ALL,
+        root_moves: Optional[Iterable[Move]] = None,
+        options: Options = {},
     ) -> Union[InfoDict, List[InfoDict]]:
         """What the engine says of the position: its score, the line of moves that it awaits, and more; with `multipv` of that number of lines, as a list.
-        Raises `EngineError` for a move that isn't legal."""
+        Raises `EngineError` for a move that isn't legal. `game`, `info` and `options` are as for `play`."""
         with self._lock:
+            self._begin_game(game)
+            self.configure(options)
             infos, _ = self._searched(board, limit, 1 if multipv is None else multipv, root_moves)
             return infos[0] if multipv is None else infos
 

@@ -36,7 +36,7 @@ from ._checks import one_of
 from ._edits import EDITING, Edits
 from ._errors import InvalidGameError
 from ._moves import BLACK, WHITE, Move
-from ._nodes import Nags, Node
+from ._nodes import Mainline, Nags, Node
 from ._status import Status
 from ._visitors import SKIP, BaseVisitor, SkipType, StringExporter, walk
 
@@ -45,6 +45,7 @@ __all__ = [
     "BaseVisitor",
     "Game",
     "Headers",
+    "Mainline",
     "Nags",
     "Node",
     "Repair",
@@ -299,13 +300,13 @@ class Game(Node):
         self._children
         self._marker = marker
 
-    def mainline_moves(self) -> Iterator[Move]:
-        """The moves of the main line. The library makes them out all at once, without the tree.
+    def mainline_moves(self) -> Mainline[Move]:
+        """The moves of the main line. The library computes them without the tree, each time that you go through them.
 
         >>> [move.uci() for move in jatshegi.pgn.read_game("1. e4 e5 (1... c5) 2. Nf3 *").mainline_moves()]
         ['e2e4', 'e7e5', 'g1f3']
         """
-        return iter(Board.from_game(self)._main_line())
+        return Mainline(self, lambda: iter(Board.from_game(self)._main_line()), lambda: len(self.mainline_sans()))
 
     def mainline_sans(self) -> List[str]:
         """Their texts in standard algebraic notation, without the tree.

@@ -9,9 +9,9 @@ A notebook shows a board's picture by itself. The men are those of the page for 
 """
 from __future__ import annotations
 
+import html
 import math
 from typing import Any, Dict, Iterable, List, Mapping, NamedTuple, Optional, Tuple, Union
-from xml.sax.saxutils import quoteattr
 
 from ._board import Board
 from ._checks import colour_of, one_of, square_of, text_of, whole
@@ -49,6 +49,11 @@ _COLOURS: Dict[str, str] = {
 
 # A square's side and the margin's width, in the picture's units.
 _SIDE, _MARGIN = 40, 15
+
+
+def _quoted(text: str) -> str:
+    """The value of an attribute, in its quotation marks."""
+    return f'"{html.escape(text)}"'
 
 
 class Arrow(NamedTuple):
@@ -94,7 +99,7 @@ def _colours(colors: Mapping[str, str]) -> Dict[str, str]:
 def _arrow(arrow: Arrow, at: Dict[int, Tuple[float, float]], colours: Mapping[str, str]) -> str:
     (x1, y1), (x2, y2) = at[square_of(arrow.tail)], at[square_of(arrow.head)]
     x1, y1, x2, y2 = (it + _SIDE / 2 for it in (x1, y1, x2, y2))
-    colour = quoteattr(colours.get(f"arrow {arrow.color}", arrow.color))
+    colour = _quoted(colours.get(f"arrow {arrow.color}", arrow.color))
     if arrow.tail == arrow.head:
         return f'<circle cx="{x1:g}" cy="{y1:g}" r="{_SIDE * 0.45:g}" stroke-width="{_SIDE * 0.1:g}" stroke={colour} fill="none" opacity=".72"/>'
     far = math.hypot(x2 - x1, y2 - y1)
@@ -113,7 +118,7 @@ def _arrow(arrow: Arrow, at: Dict[int, Tuple[float, float]], colours: Mapping[st
 # The colours, where the words of a picture are such as it takes.
 def _checked(board: Any, orientation: Any, lastmove: Any, fill: Any, colors: Any) -> Dict[str, str]:
     if board is not None:
-        one_of(board, Board, "a picture is of a Board, or of None")
+        one_of(board, (Board, Mapping), "a picture is of a Board, of a mapping from squares to men, or of None")
     if lastmove is not None:
         one_of(lastmove, Move, "the last move is a Move, or None")
         square_of(lastmove.from_square), square_of(lastmove.to_square)
@@ -133,7 +138,7 @@ def _corner(square: int, orientation: bool, margin: int) -> Tuple[int, int]:
 
 # What lies below a king in check.
 def _glow(colour: str) -> str:
-    stop = quoteattr(colour)
+    stop = _quoted(colour)
     return (
         f'<defs><radialGradient id="check"><stop offset="0" stop-color={stop}/><stop offset=".5" stop-color={stop}/>'
         f'<stop offset="1" stop-color={stop} stop-opacity="0"/></radialGradient></defs>'
@@ -141,7 +146,7 @@ def _glow(colour: str) -> str:
 
 
 def board(
-    board: Optional[Board] = None,
+    board: Union[Board, Mapping[int, Piece], None] = None,
     *,
     orientation: bool = WHITE,
     lastmove: Optional[Move] = None,
@@ -153,7 +158,7 @@ def board(
     coordinates: bool = True,
     colors: Mapping[str, str] = {},
 ) -> str:
-    """A picture of the board, as the player of that colour sees it; without one, of the empty board.
+    """A picture of the board, as the player of that colour sees it; or of men on their squares, which need be no position; without either, of the empty board.
 
     `lastmove` colours its two squares, `check` the square of a king, `fill` any square; `squares` get a cross, and `arrows` are drawn. `colors` replaces
     colours by their names. The picture is `size` pixels wide and high. Raises `ValueError` for what is no square, size or name.
@@ -161,15 +166,18 @@ def board(
     >>> picture = jatshegi.svg.board(Board(), arrows=[(jatshegi.E2, jatshegi.E4)], orientation=jatshegi.BLACK)
     >>> picture.count("<rect"), picture.count("<line")
     (65, 1)
+    >>> jatshegi.svg.board({jatshegi.E4: jatshegi.Piece.from_symbol("N")}).count("translate")
+    1
     """
     colours = _checked(board, orientation, lastmove, fill, colors)
-    men = {} if board is None else board.piece_map()
+    given = board.piece_map() if isinstance(board, Board) else board or {}
+    men = {square_of(square): Piece.from_symbol(man) for square, man in given.items()}
     filled, crossed = {square_of(it): colour for it, colour in fill.items()}, {square_of(it) for it in squares}
     last = set() if lastmove is None else {lastmove.from_square, lastmove.to_square}
     margin = _MARGIN if coordinates else 0
     full = 8 * _SIDE + 2 * margin
     at: Dict[int, Tuple[float, float]] = {}
-    parts = [f'<svg xmlns="http://www.w3.org/2000/svg" viewBox="0 0 {full} {full}"{_sized(size)}><rect width="{full}" height="{full}" fill={quoteattr(colours["margin"])}/>']
+    parts = [f'<svg xmlns="http://www.w3.org/2000/svg" viewBox="0 0 {full} {full}"{_sized(size)}><rect width="{full}" height="{full}" fill={_quoted(colours["margin"])}/>']
     checked = None if check is None else square_of(check)
     if checked is not None:
         parts.append(_glow(colours["check"]))
@@ -177,7 +185,7 @@ def board(
         at[square] = left, top = _corner(square, orientation, margin)
         shade = "square light" if (square ^ square >> 3) & 1 else "square dark"
         colour = filled.get(square, colours[f"{shade} lastmove" if square in last else shade])
-        parts.append(f'<rect x="{left}" y="{top}" width="{_SIDE}" height="{_SIDE}" fill={quoteattr(colour)}><title>{SQUARE_NAMES[square]}</title></rect>')
+        parts.append(f'<rect x="{left}" y="{top}" width="{_SIDE}" height="{_SIDE}" fill={_quoted(colour)}><title>{SQUARE_NAMES[square]}</title></rect>')
         if square == checked:
             parts.append(f'<circle cx="{left + _SIDE // 2}" cy="{top + _SIDE // 2}" r="{_SIDE // 2}" fill="url(#check)"/>')
         if square in men:
@@ -192,7 +200,7 @@ def board(
 
 # The names of the files and the ranks, on all four sides.
 def _names(orientation: bool, full: int, colour: str) -> List[str]:
-    parts = [f'<g font-family="sans-serif" font-size="10" text-anchor="middle" fill={quoteattr(colour)}>']
+    parts = [f'<g font-family="sans-serif" font-size="10" text-anchor="middle" fill={_quoted(colour)}>']
     for place in range(8):
         middle = _MARGIN + place * _SIDE + _SIDE // 2
         file, rank = "abcdefgh"[place if orientation == WHITE else 7 - place], "87654321"[place if orientation == WHITE else 7 - place]
