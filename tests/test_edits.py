@@ -222,6 +222,8 @@ class Kept(unittest.TestCase):
         self.assertEqual([len(jatshegi.pgn.Game().children), movetext(jatshegi.pgn.Game())], [0, "*"])
         for other in ({"White": "a"}, None, 7, game):
             self.assertRaises(TypeError, jatshegi.pgn.Game, other)
+        for other in ({"White": "a"}, None, "White"):
+            self.assertRaises(TypeError, jatshegi.pgn.Headers, other)
 
     def test_copies(self):
         game = jatshegi.pgn.read_game("1. e4 e5 (1... c5) *")

@@ -15,6 +15,7 @@ import subprocess
 import sys
 import sysconfig
 import tempfile
+import textwrap
 import threading
 import time
 import unittest
@@ -1099,9 +1100,25 @@ class ThePackage(unittest.TestCase):
     def test_types(self):
         if not shutil.which("mypy"):
             self.skipTest("mypy is not on the path")
+        uses = """
+            import jatshegi
+            squares = jatshegi.SquareSet(255)
+            squares |= 3
+            print(int(squares | 3), (squares & {1}).mask, (squares << 8 ^ squares).mask, squares.union(7, [1]).mask)
+            line = jatshegi.pgn.Game().mainline_moves()
+            print([move.uci() for move in reversed(line)], jatshegi.Board().legal_moves.count(), jatshegi.Termination.CHECKMATE.value)
+            jatshegi.Board().push(move=jatshegi.Move(12, 28))
+            jatshegi.Board(None)
+        """
         with tempfile.TemporaryDirectory() as folder:
-            ran = subprocess.run(["mypy", "--strict", "--cache-dir", folder, f"{PACKAGE}/jatshegi"], capture_output=True, text=True)
+            with open(f"{folder}/uses.py", "w", encoding="utf-8") as file:
+                file.write(textwrap.dedent(uses))
+            words = ["mypy", "--strict", "--cache-dir", f"{folder}/cache"]
+            ran = subprocess.run([*words, f"{PACKAGE}/jatshegi"], capture_output=True, text=True)
+            used = subprocess.run([*words, f"{folder}/uses.py"], env={**os.environ, "MYPYPATH": PACKAGE}, capture_output=True, text=True)
         self.assertEqual(ran.returncode, 0, ran.stdout)
+        # The last two lines are those that a call refuses, too.
+        self.assertEqual(re.findall(r"uses.py:(\d+): error", used.stdout), ["8", "9"], used.stdout)
 
     def test_installs_and_answers(self):
         with tempfile.TemporaryDirectory() as folder:

@@ -194,6 +194,17 @@ class Files(unittest.TestCase):
                         break
                 # (where a file is gone through by its lines it can't tell where it stands)
                 self.assertEqual([game.next().san for game in jatshegi.pgn.games(opened)], ["e4", "d4"])
+        class Bare:
+            """What can't be remembered."""
+
+            __slots__ = ("pieces",)
+
+            def read(self, count):
+                return self.pieces.pop(0)
+
+        bare = Bare()
+        bare.pieces = [b"1. e4 * 1. d4 *", b""]
+        self.assertEqual([(game.place, game.next().san) for game in jatshegi.pgn.games(bare)], [(0, "e4"), (7, "d4")])
         self.assertEqual([jatshegi.pgn.Game().place, jatshegi.pgn.Game.from_board(jatshegi.Board()).place, jatshegi.pgn.read_game("*").place], [0, None, 0])
 
     def test_a_game_that_is_read_alone_is_saved(self):

@@ -96,6 +96,7 @@ class Headers(MutableMapping[str, str]):
     __slots__ = ("_game",)
 
     def __init__(self, game: Game) -> None:
+        one_of(game, Game, "headers are those of a game, as Game().headers, and are set one by one")
         self._game = game
 
     def __getitem__(self, name: str) -> str:
@@ -840,7 +841,11 @@ def games(
         for data, place in _games_of(lambda: texts.next(repaired), bad):
             yield _game(data, encoding, place)
     elif hasattr(source, "read"):
-        opened = _file_of(source)
+        try:
+            opened = _file_of(source)
+        except TypeError:
+            # (an object that can't be remembered is read here alone)
+            opened = _File(lambda: source)
         for data, place in _games_of(lambda: opened.next(repaired), bad):
             yield _game(data, "utf-8" if opened.is_text else encoding, place)
     else:
