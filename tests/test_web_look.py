@@ -197,8 +197,8 @@ class Looking:
                 left, top, right, bottom = found["board"]
                 self.assertLessEqual(found["width"], width, name)
                 self.assertTrue(abs((right - left) - (bottom - top)) <= 1 and bottom <= height, (name, found))
-                # as large as the window lets it: the height but for the players and the top, or the width, in a narrow one
-                room = height - 170 if width >= height else min(width - 24, height - 400)
+                # as large as the window lets it: the height but for the players and the top, or the width but for a scroll bar, in a narrow one
+                room = height - 170 if width >= height else min(width - 40, height - 400)
                 self.assertGreaterEqual(right - left, min(room, width - 300 if width >= height else width), (name, found))
 
     def test_the_board_has_most_of_a_small_window(self):
@@ -207,14 +207,14 @@ class Looking:
             const inside = (it, [left, right]) => { const r = it.getBoundingClientRect(); return r.left >= left - 1 && r.right <= right + 1; };
             const { left, right, width, height } = document.getElementById('board').getBoundingClientRect();
             const tools = document.querySelector('.tools').getBoundingClientRect();
-            const cut = [...document.querySelectorAll('main *')].filter((it) => it.checkVisibility() && !it.closest('.away') && !inside(it, [0, innerWidth]));
+            const cut = [...document.querySelectorAll('main *')].filter((it) => it.checkVisibility() && !it.closest('.away') && !inside(it, [0, document.documentElement.clientWidth]));
             cut.push(...[...document.querySelectorAll('.tools > .tool')].filter((it) => !inside(it, [tools.left, tools.right])));
-            return { window: [innerWidth, innerHeight], board: [width, height], wide: document.documentElement.scrollWidth, cut: cut.map((it) => it.outerHTML.slice(0, 80)) };
+            return { window: [innerWidth, innerHeight], board: [width, height], isWide: document.documentElement.scrollWidth > document.documentElement.clientWidth, cut: cut.map((it) => it.outerHTML.slice(0, 80)) };
         """
 
         def is_well(found):
             least = max(192, 0.7 * min(found["window"]))
-            return min(found["board"]) >= least - 1 and abs(found["board"][0] - found["board"][1]) <= 1 and found["wide"] <= found["window"][0] and not found["cut"]
+            return min(found["board"]) >= least - 1 and abs(found["board"][0] - found["board"][1]) <= 1 and not found["isWide"] and not found["cut"]
 
         self.read()
         for size in SMALL:

@@ -125,7 +125,7 @@ const save = async (it) => {
   } catch (error) {
     it.isDirty = true;
     unwritten.add(it);
-    mine.failed = `The last change of ${nameOf(it.record)} is not kept in this browser: ${error.message}. Save the game as a file (PGN) before you leave the page.`;
+    mine.failed = `The last change of ${nameOf(it.record)} is not kept in this browser: ${error.message.replace(/\.$/, '')}. Save the game as a file (PGN) before you leave the page.`;
   } finally {
     it.saving = null;
     writing.delete(it);

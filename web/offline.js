@@ -1,6 +1,6 @@
 // Keeps the page's own files of one version in the browser, so that it opens without a net. A new version replaces them as a whole.
 // The list is written by tools/offline.
-const VERSION = '5749d4ea94cac90f';
+const VERSION = '3bc20cd90c205d2f';
 const KEPT = {
   'about.html': 'sha256-r1CC3PSgnT3IeddTCQ+9Qc4Ht/lyiBkQBzsxB+mInYc=',
   'analysis.js': 'sha256-hJYnAoGHEQGyPt764FR/D4jDfFQ4+x1gz6O6vkj5TUM=',
@@ -37,13 +37,13 @@ const KEPT = {
   'kept.js': 'sha256-vpP/bVdI8p6TCGMGRKn1e5vRVBq7u7djRam2xRtcoqM=',
   'link.js': 'sha256-yOY4ch4C9jWHyzEGT1ozdyWf8krTURqNMwrGeWkneLk=',
   'main.js': 'sha256-Sa71l0CKqA21SoZZ5zMCw5o4zD0RrJzHc9N9fSbWtrI=',
-  'mine.js': 'sha256-Kb1sekNLtErIwceND5X0C61LXivw+30R15c9RCUo8TE=',
+  'mine.js': 'sha256-y3pjyGlZybvQb+m9ynGWHpu4dqdcdJ8IWA7PYuj/+UM=',
   'own.js': 'sha256-59wcSsJGCgiOu9ePaeF6DWM7VaSW5Rhqcj+D+ktElng=',
   'pgn.js': 'sha256-TxoePkcQmrumVSgjY6UWWb28LNwgXcrlPUfO+Oe+efo=',
   'settings.js': 'sha256-lfnY3Lee1w8sdBUo5DpbL5zUnuORJHD/B69WyxuGQrs=',
   'spellings.js': 'sha256-4ZUgPyCZJ5j4XbOYL9JMkb+ulsYm/jMrJLyqndlE4bo=',
   'store.js': 'sha256-C10zWHMq50ar1TXN97UWrl7czSU+khYnbTpapLDHo2A=',
-  'style.css': 'sha256-Hb4y4hToSpLUdJJ30A4xNEV7ibiZCp3IRfQ5ZdnsE94=',
+  'style.css': 'sha256-lniEUWBLyeANYDQFYhxK/DkGXSs92uqexQQ4IM/oos8=',
   'words.js': 'sha256-GznX/PpEnbGf5FoCE7c1yJ675bC5LesFR1qgrlTGLVk=',
   'worker.js': 'sha256-hcPzxqihlL8WdLvPoSMFLCgdpGtnEIMAnrJGsCNHIb0=',
 };
