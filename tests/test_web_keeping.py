@@ -669,6 +669,42 @@ class Keeping(Browsing):
         page.script("document.querySelector('#own .open').click()")
         self.until_text(own)
 
+    def test_a_listed_game_that_was_changed_is_not_lost_by_one_that_was_looked_at_before(self):
+        page = self.page
+        page.play("e4", "e5")
+        own = self.text()
+        with tempfile.NamedTemporaryFile(suffix=".pgn", dir=self.folder) as file:
+            file.write(b"1. d4 *\n\n1. c4 *\n\n1. Nf3 *\n")
+            file.flush()
+            page.at("file").send_keys(file.name)
+            page.until_moves("1. d4")
+            page.until(lambda: page.text("howmany") == "3 games", "they are listed")
+        for number, moves in ((1, "1. c4"), (2, "1. Nf3")):
+            page.script("document.querySelectorAll('#games button')[arguments[0]].click()", number)
+            page.until_moves(moves)
+        page.script("document.getElementById('undo').click()")
+        page.until_moves("1. c4")
+        page.script("document.getElementById('end').click()")
+        page.play("c5", "g3")
+        changed = self.text()
+        self.reload()
+        for _ in range(2):
+            page.script("document.getElementById('undo').click()")
+        page.until_moves("1. c4")
+        page.script("document.getElementById('undo').click()")
+        self.until_text(own)
+        page.play("Nf3")
+        page.script("document.querySelectorAll('#own .open')[1].click()")
+        page.until_moves("1. c4")
+        for _ in range(2):
+            page.script("document.getElementById('redo').click()")
+        self.until_text(changed)
+        # (what was changed stays beside another of the list)
+        page.until(lambda: page.text("howmany") == "3 games", "they are listed again")
+        page.script("document.querySelectorAll('#games button')[0].click()")
+        page.until_moves("1. d4")
+        page.until(lambda: page.script("return document.querySelectorAll('#own .open').length") == 3, "all three are there")
+
     def saved_back(self, name):
         path = f"{self.folder}/{name}"
         if os.path.exists(path):

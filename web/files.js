@@ -2,7 +2,7 @@
 import { ask } from './ask.js';
 import { areMostPositions, position } from './epd.js';
 import { doing, exported, game, inTurn, isSettled, page, taken } from './game.js';
-import { another, idHere, isAsLoaded, noteLoaded } from './mine.js';
+import { another, idHere, isAsLoaded } from './mine.js';
 import { fromBytes, shown, toBytes } from './jatshegi/src/bytes.js';
 import { hasStore, newFileId, readFile, writeFile } from './store.js';
 import { faultWords, refusal } from './words.js';
@@ -45,7 +45,6 @@ const openListed = (it) => doing(async () => {
   const { bytes } = collection;
   const origin = originOf(it);
   if (!await isSettled() || !await taken(bytes.slice(it.at, it.at + it.used), { isBeside: !isAsLoaded(), origin })) return;
-  noteLoaded();
   noteOpened(collection, it);
 });
 
@@ -149,7 +148,6 @@ export const read = async (bytes, { before = game.acts, file = null } = {}) => {
   const take = (it) => inTurn(async () => {
     if (game.acts !== before || collection !== mine || !await isSettled()) return false;
     const isTaken = await taken(bytes.slice(it.at, it.at + it.used), { isBeside: !file || !isAsLoaded(), origin: originOf(it) });
-    if (isTaken && file) noteLoaded();
     if (isTaken) noteOpened(mine, it);
     return isTaken;
   });

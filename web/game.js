@@ -52,14 +52,18 @@ const asked = async (job, more) => {
 
 // ---- The states.
 
-// Notes how the game now is. What can't be written can't be noted.
-const note = () => {
+// Notes how the game now is. What can't be written can't be noted. Of a game from a file it is said that it `isLoaded`, as it is there: once something is done with one,
+// the games that were looked at before in its place are no states of it, so that no change of them takes its place.
+const note = (isLoaded = false) => {
   const { state, origin } = game;
   if (state.pgn.startsWith('refused')) {
     page.told(`Since the last move or so nothing can be undone or kept: ${refusal(state.pgn)}`);
     return;
   }
-  page.noted(game.history.note({ origin, pgn: state.pgn, path: state.path }));
+  const { history } = game;
+  const isNew = history.note({ origin, pgn: state.pgn, path: state.path, ...(isLoaded ? { isLoaded } : {}) });
+  if (isNew && !isLoaded && history.states[history.at - 1]?.isLoaded) history.forgetBefore(history.at - 1);
+  page.noted(isNew);
 };
 
 /** Has the module restore a state. Where it can't, all is as before. */
@@ -187,7 +191,7 @@ const puts = (state, { origin = null, isMoved = false, isBeside = true, more = {
   } else leaveDraft();
   Object.assign(game, { state, origin, isMoved });
   page.told('');
-  note();
+  note(origin !== null);
   page.drawTags();
   page.draw();
 };

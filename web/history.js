@@ -32,6 +32,13 @@ export class History {
     return this.at < this.states.length - 1;
   }
 
+  /** Gives up the states before that one. */
+  forgetBefore(at) {
+    this.states.splice(0, at);
+    this.first += at;
+    this.at -= at;
+  }
+
   /** Notes how the game is: after a change a new state, which takes the place of those that were undone, else the place alone. Returns whether it is a new one. */
   note(state) {
     if (this.here?.pgn === state.pgn) {

@@ -51,11 +51,7 @@ export const isFresh = () => {
 };
 
 /** Whether the game on the board is as it came from a file. */
-export const isAsLoaded = () => game.origin !== null && mine.here.record.loaded === mine.here.history.number && mine.here.history.last === mine.here.history.number && !game.draft;
-
-export const noteLoaded = () => {
-  mine.here.record.loaded = mine.here.history.number;
-};
+export const isAsLoaded = () => game.history.here.isLoaded === true && !game.history.canRedo() && !game.draft;
 
 // ---- Writing.
 

@@ -1,6 +1,6 @@
 // Keeps the page's own files of one version in the browser, so that it opens without a net. A new version replaces them as a whole.
 // The list is written by tools/offline.
-const VERSION = '3bc20cd90c205d2f';
+const VERSION = '83268cc8a1f4fe30';
 const KEPT = {
   'about.html': 'sha256-r1CC3PSgnT3IeddTCQ+9Qc4Ht/lyiBkQBzsxB+mInYc=',
   'analysis.js': 'sha256-hJYnAoGHEQGyPt764FR/D4jDfFQ4+x1gz6O6vkj5TUM=',
@@ -13,9 +13,9 @@ const KEPT = {
   'engine.js': 'sha256-XINIk4AlkbrbMMaBOUYsVq9+D8NFb4QxGGTlA3Oevo0=',
   'epd.js': 'sha256-xQn3GCHNc2Yqdh0gMV5ngVdUaQNX/WBZXprjkCkK10g=',
   'fen.js': 'sha256-tYVv38gdjVF02qg7ZhnHkVXIz6EbA+6cJslqsPCR140=',
-  'files.js': 'sha256-YaAhvt5PKhmbmeISfseU+F6WLcmxO+645jG9kLLRzVE=',
-  'game.js': 'sha256-eVZDmitQltuhzbzoNRQq79Lq78r7+e2G9IyALeyBhhI=',
-  'history.js': 'sha256-b2xYiCnIoEXfhgI8jth/7pFno7cjEuzPowCCkZyQYLc=',
+  'files.js': 'sha256-1f5sAoeCxrjRyKja4q59D1at5nrlZHwEWjjugXsG2Uc=',
+  'game.js': 'sha256-kmqt+fF2VXTxn7KtFQ5/lkd+3Z2INuOThhiIyL3j6pg=',
+  'history.js': 'sha256-RLVHLQ+yLGfFvQ3BPW1pGbtaJkvMxkPEIXhM7IR8hYE=',
   'icon.svg': 'sha256-MIqbBfrY8jneIrbk+mcJq7TJSYDbHm5LwjQhbWTpmWU=',
   'index.html': 'sha256-o21pwKXsM2Kbh0fXztp1Uq4FXQMn2DGFpbXsYLJgdXY=',
   'jatshegi.wasm': 'sha256-98P1G3cRx3v/IPMxr52gDZTUf7pEfq+Y78fyxvGpujw=',
@@ -37,7 +37,7 @@ const KEPT = {
   'kept.js': 'sha256-vpP/bVdI8p6TCGMGRKn1e5vRVBq7u7djRam2xRtcoqM=',
   'link.js': 'sha256-yOY4ch4C9jWHyzEGT1ozdyWf8krTURqNMwrGeWkneLk=',
   'main.js': 'sha256-Sa71l0CKqA21SoZZ5zMCw5o4zD0RrJzHc9N9fSbWtrI=',
-  'mine.js': 'sha256-y3pjyGlZybvQb+m9ynGWHpu4dqdcdJ8IWA7PYuj/+UM=',
+  'mine.js': 'sha256-bb4j/2IL1kqEZ6OqedtX70U1eahLRlkESSeVjzl/OUk=',
   'own.js': 'sha256-59wcSsJGCgiOu9ePaeF6DWM7VaSW5Rhqcj+D+ktElng=',
   'pgn.js': 'sha256-TxoePkcQmrumVSgjY6UWWb28LNwgXcrlPUfO+Oe+efo=',
   'settings.js': 'sha256-lfnY3Lee1w8sdBUo5DpbL5zUnuORJHD/B69WyxuGQrs=',
