@@ -1,6 +1,6 @@
 // Keeps the page's own files of one version in the browser, so that it opens without a net. A new version replaces them as a whole.
 // The list is written by tools/offline.
-const VERSION = '83268cc8a1f4fe30';
+const VERSION = '44ae6ad12126ef11';
 const KEPT = {
   'about.html': 'sha256-r1CC3PSgnT3IeddTCQ+9Qc4Ht/lyiBkQBzsxB+mInYc=',
   'analysis.js': 'sha256-hJYnAoGHEQGyPt764FR/D4jDfFQ4+x1gz6O6vkj5TUM=',
@@ -21,19 +21,11 @@ const KEPT = {
   'jatshegi.wasm': 'sha256-98P1G3cRx3v/IPMxr52gDZTUf7pEfq+Y78fyxvGpujw=',
   'jatshegi/src/boards.js': 'sha256-4q1gA9sVJ0QEL+j/WaH/7jQuueHiq5pwfpy1xB1kZHU=',
   'jatshegi/src/bytes.js': 'sha256-L1KCUkgWQXHkntmbRa68OSfnQGFQUXUkQyDSGxZvCyE=',
-  'jatshegi/src/chess.js': 'sha256-yLRb7clh39gOKjJ4I4ZqrFnYOLyjMDiMygjuFYPRHUQ=',
   'jatshegi/src/compile.js': 'sha256-W5YCPdzEjIwsTakE2+p5y4KsZsbNwjHyMkzcXGp/evQ=',
-  'jatshegi/src/core.js': 'sha256-0braif20CbdSKQQN+JqRdaMerMbLZleZNcn4SVR/DIo=',
   'jatshegi/src/errors.js': 'sha256-1dHDKRiTmZutoLveX/EjRUwQgtCuLswLbieQhB4xB3c=',
   'jatshegi/src/export.js': 'sha256-6EEw1K1/6ALnZHKQM0XneV5Et8Cn/FOwvVxu1ChTL8A=',
   'jatshegi/src/games.js': 'sha256-J0UqHFyG/GTV+F2fslXO3HOK0bY2FzoPv2fIdOnHDrQ=',
-  'jatshegi/src/index.js': 'sha256-mocQUaLq8bxWPxO71uIaOojQtkUlJgyqLRFkkpf+E/Y=',
-  'jatshegi/src/inline.js': 'sha256-Mev2Tok2kODsTcGraky0HBi1mmdjOvyrPLxoc3/Y8wg=',
   'jatshegi/src/memory.js': 'sha256-BEW5eK6PpXP6HHmL/FZrpzjNEsQbOMZqaA1odgnDTF4=',
-  'jatshegi/src/move.js': 'sha256-4GxtQFFRwS8wWMZYQVl+WqWhy5qp0pHlLW75pHBGnHg=',
-  'jatshegi/src/node.js': 'sha256-fkKwONbVmtlSc4rqollLVByIAHRS05ncP322/NxrPog=',
-  'jatshegi/src/questions.js': 'sha256-UwHlmdrvpdIHX778x5hZ2tXrKqLSZcJyQ9QQtJOx0+M=',
-  'jatshegi/src/search.js': 'sha256-tb5krwVNfzmkC2fNaV0xzfi39StNgA/L70mvgNHxGUM=',
   'kept.js': 'sha256-vpP/bVdI8p6TCGMGRKn1e5vRVBq7u7djRam2xRtcoqM=',
   'link.js': 'sha256-yOY4ch4C9jWHyzEGT1ozdyWf8krTURqNMwrGeWkneLk=',
   'main.js': 'sha256-Sa71l0CKqA21SoZZ5zMCw5o4zD0RrJzHc9N9fSbWtrI=',
