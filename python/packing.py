@@ -58,7 +58,8 @@ def tag_of(entries):
 
 def sources():
     """The package's own files by their paths."""
-    return {f"jatshegi/{name}": read(f"jatshegi/{name}") for name in sorted(os.listdir("jatshegi")) if name.endswith((".py", ".typed", ".c"))}
+    folders = ("jatshegi", "jatshegi/compat")
+    return {f"{folder}/{name}": read(f"{folder}/{name}") for folder in folders for name in sorted(os.listdir(folder)) if name.endswith((".py", ".typed", ".c"))}
 
 
 def metadata():

@@ -88,7 +88,7 @@ class Pages(unittest.TestCase):
             if path.endswith((".rt", ".antt", ".edit", "stdin", "parts.txt")):
                 cls.words.update(re.findall(r"[\w-]+|\w+", text_of(path)))
                 cls.words.update(re.findall(r"\w+", text_of(path)))
-        python = glob.glob("python/jatshegi/*.py", root_dir=runs.TOP)
+        python = glob.glob("python/jatshegi/**/*.py", root_dir=runs.TOP, recursive=True)
         rust = glob.glob("rust/src/*.rs", root_dir=runs.TOP)
         script = glob.glob("web/jatshegi/src/*.js", root_dir=runs.TOP)
         tools = [f"tools/{name}" for name in os.listdir(f"{runs.TOP}/tools")]

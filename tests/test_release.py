@@ -1,4 +1,5 @@
 """The released programs are what the sources give, and ./chess, ./chess_games, ./arbiter and ./perft run them there and nowhere else."""
+import glob
 import hashlib
 import os
 import platform
@@ -91,7 +92,7 @@ class TheRelease(unittest.TestCase):
 
     def test_the_header_and_the_package_are_as_the_manifest_says(self):
         """`make install` takes no others, and so do the packages."""
-        package = {f"python/jatshegi/{name}" for name in os.listdir(f"{runs.TOP}/python/jatshegi") if name.endswith(".py")}
+        package = set(glob.glob("python/jatshegi/**/*.py", root_dir=runs.TOP, recursive=True))
         self.assertEqual(set(manifest()[3]), {"include/jatshegi.h"} | package)
         for path, (size, digest) in manifest()[3].items():
             data = read(f"{runs.TOP}/{path}")

@@ -1,0 +1,40 @@
+"""A program written for python-chess runs here if its import lines are changed:
+
+    >>> import jatshegi.compat as chess
+    >>> board = chess.Board()
+    >>> board.push_san("e4")
+    Move.from_uci('e2e4')
+    >>> board.legal_moves.count(), board.ply(), chess.piece_name(board.piece_type_at(chess.E4))
+    (20, 1, 'pawn')
+
+The names, the words of calls and the answers are those of python-chess 1.11; docs/PYTHON.md lists what differs and what is refused. The proved library answers
+each question of chess.
+"""
+from .. import _squares
+from .._errors import AmbiguousMoveError, IllegalMoveError, InvalidMoveError
+from .._moves import parse_square, square, square_file, square_name, square_rank
+from .._squares import *
+from .._status import Outcome, Termination
+from . import _names, svg
+from ._boards import Board, LegalMoveGenerator
+from ._men import BaseBoard
+from ._names import *
+
+__all__ = [
+    "AmbiguousMoveError",
+    "BaseBoard",
+    "Board",
+    "IllegalMoveError",
+    "InvalidMoveError",
+    "LegalMoveGenerator",
+    "Outcome",
+    "Termination",
+    "parse_square",
+    "square",
+    "square_file",
+    "square_name",
+    "square_rank",
+    "svg",
+]
+__all__ += _names.__all__
+__all__ += _squares.__all__

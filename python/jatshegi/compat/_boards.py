@@ -1,0 +1,722 @@
+"""The board of python-chess over the library's."""
+from __future__ import annotations
+
+from typing import Any, Callable, Collection, Dict, Iterable, Iterator, List, Mapping, NamedTuple, Optional, Tuple, Type, TypeVar, Union
+
+from .. import _board
+from .. import _library as c
+from .. import svg as _svg
+from .._checks import colour_of, one_of, square_of
+from .._errors import IllegalMoveError, InvalidFenError
+from .._status import Outcome, Termination
+from . import _epd
+from ._men import BaseBoard, counts, field_of, men_of, pawns_on_last_ranks
+from ._names import (
+    BB_ALL,
+    BB_SQUARES,
+    BISHOP,
+    BLACK,
+    COLORS,
+    MEN,
+    OURS,
+    PAWN,
+    QUEEN,
+    ROOK,
+    SQUARE_NAMES,
+    STARTING_FEN,
+    WHITE,
+    Bitboard,
+    Color,
+    Move,
+    Piece,
+    PieceType,
+    Square,
+    SquareSet,
+    Status,
+    between,
+    popcount,
+    ray,
+    refuse,
+    scan_forward,
+)
+
+_Of = TypeVar("_Of", bound="Board")
+
+# The square of the rook of each castling right, and the king's.
+_ROOKS = {"K": (7, 4), "Q": (0, 4), "k": (63, 60), "q": (56, 60)}
+# The faults of a FEN whose fields can be read: such pieces are kept, and are no position.
+_NO_POSITION = (3, 4, 5, 10)
+_IN_CHECK = 10
+_TWO_KINGS = "4k3/8/8/8/8/8/8/4K3"
+# What `parse_san` of python-chess reads as the null move.
+_NULLS = ("--", "Z0", "0000", "@@@@")
+
+
+class Fields(NamedTuple):
+    """The fields of a FEN."""
+
+    men: Dict[Square, Piece]
+    turn: Color = WHITE
+    castling: str = "-"
+    target: Optional[Square] = None
+    clock: int = 0
+    number: int = 1
+
+    def text(self) -> str:
+        """The FEN."""
+        target = "-" if self.target is None else SQUARE_NAMES[self.target]
+        return f"{field_of(self.men)} {'w' if self.turn else 'b'} {self.castling} {target} {self.clock} {self.number}"
+
+    def kept(self) -> str:
+        """The castling rights whose king and rook stand on their squares."""
+        stand = (it for it in self.castling if it != "-" and self.men.get(_ROOKS[it][0]) == "RrRr"["KkQq".index(it)] and self.men.get(_ROOKS[it][1]) == ("K" if it in "KQ" else "k"))
+        return "".join(stand) or "-"
+
+
+def fields_of(fen: str) -> Fields:
+    """The fields of a FEN, of which only the first one must be there. Raises `ValueError`."""
+    parts = fen.split()
+    if not 1 <= len(parts) <= 6:
+        raise ValueError(f"a FEN has one to six fields: {fen!r}")
+    men = men_of(parts[0])
+    rest = parts[1:] + ["w", "-", "-", "0", "1"][len(parts) - 1 :]
+    # (the library reads the other fields)
+    _board.Board(" ".join([_TWO_KINGS, *rest]))
+    return _fields(men, *rest)
+
+
+def _fields(men: Dict[Square, Piece], turn: str, castling: str, target: str, clock: str, number: str) -> Fields:
+    return Fields(men, turn == "w", castling, None if target == "-" else SQUARE_NAMES.index(target), int(clock), max(int(number), 1))
+
+
+class LegalMoveGenerator:
+    """The legal moves of a board, as it has them at each moment."""
+
+    def __init__(self, board: Board) -> None:
+        self.board = board
+
+    def __bool__(self) -> bool:
+        return bool(self.board._game.legal_moves)
+
+    def count(self) -> int:
+        """How many there are."""
+        return len(self.board._game.legal_moves)
+
+    def __iter__(self) -> Iterator[Move]:
+        return map(OURS.__getitem__, self.board._game.legal_moves)
+
+    def __contains__(self, move: Move) -> bool:
+        return self.board.is_legal(move)
+
+    def __repr__(self) -> str:
+        return f"<LegalMoveGenerator at {id(self):#x} ({', '.join(self.board.san(move) for move in self)})>"
+
+
+class Board(BaseBoard):
+    """A game's position and the moves that led there. The library answers each question of chess. Pieces that are no position, as a board without kings, are
+    kept while they are edited; then a question of chess is a `ValueError`."""
+
+    aliases = ["Standard", "Chess", "Classical", "Normal", "Illegal", "From Position"]
+    uci_variant: Optional[str] = "chess"
+    xboard_variant: Optional[str] = "normal"
+    starting_fen = STARTING_FEN
+    chess960 = False
+
+    def __init__(self, fen: Optional[str] = STARTING_FEN, *, chess960: bool = False) -> None:
+        if chess960:
+            refuse("there is no Chess960")
+        self._take(_board.Board())
+        if fen is None:
+            self._begin(Fields({}))
+        elif fen != STARTING_FEN:
+            self.set_fen(fen)
+
+    # A board of the library, from whose position on moves are made.
+    def _take(self, board: _board.Board) -> None:
+        self._it = board
+        # The fields that were set last; and the library's refusal of them, where they are no position.
+        self._set: Optional[Fields] = None
+        self._refusal: Optional[InvalidFenError] = None
+
+    @classmethod
+    def _of(cls: Type[_Of], board: _board.Board) -> _Of:
+        found = cls()
+        found._take(board)
+        return found
+
+    @classmethod
+    def from_epd(cls: Type[_Of], epd: str, *, chess960: bool = False) -> Tuple[_Of, Dict[str, Any]]:
+        """The board of an EPD and its operations."""
+        board = cls.empty()
+        return board, board.set_epd(epd)
+
+    # The library's board. Raises `ValueError` if there is no position.
+    @property
+    def _game(self) -> _board.Board:
+        if self._refusal is not None:
+            _, _, why = self._refusal.args
+            raise ValueError(f"the board has no position, since {why}: {self.fen()}")
+        return self._it
+
+    # Begins a game from these fields, or keeps them if they are no position.
+    def _begin(self, fields: Fields) -> None:
+        try:
+            self._it.set_fen(fields.text())
+            self._refusal = None
+        except InvalidFenError as fault:
+            if fault.fault not in _NO_POSITION:
+                raise
+            self._refusal = fault
+        self._set = fields
+
+    # The fields as they were set, or as moves have left them.
+    def _fields(self) -> Fields:
+        if self._set is not None and (self._refusal is not None or not self._it.ply):
+            return self._set
+        return _fields(self._men_now(), *self._it.fen().split()[1:])
+
+    def _men_now(self) -> Dict[Square, Piece]:
+        if self._refusal is not None and self._set is not None:
+            return self._set.men
+        return {square: MEN[letter] for square, letter in enumerate(self._it._men()) if letter}
+
+    def _place(self, men: Dict[Square, Piece]) -> None:
+        self._begin(self._fields()._replace(men=men))
+
+    # Sets a field. Raises `ValueError` if moves have been made: the game would be another one.
+    def _edit(self, **changes: Any) -> None:
+        if self._refusal is None and self._it.ply:
+            raise ValueError("moves have been made, and a field of their position can't be set: begin a new game by clear_stack() or set_fen()")
+        self._begin(self._fields()._replace(**changes))
+
+    # ---- the position
+
+    def set_fen(self, fen: str) -> None:
+        """Begins a new game from a FEN. Raises `ValueError`."""
+        self._begin(fields_of(fen))
+
+    def reset(self) -> None:
+        """Begins a new game from the usual position."""
+        self.set_fen(STARTING_FEN)
+
+    def reset_board(self) -> None:
+        """The pieces as a game begins."""
+        self._place(men_of(STARTING_FEN.split()[0]))
+
+    def clear(self) -> None:
+        """No pieces, and White to move."""
+        self._begin(Fields({}))
+
+    def clear_stack(self) -> None:
+        """Forgets the moves; the position stays."""
+        self._begin(self._fields())
+
+    def root(self: _Of) -> _Of:
+        """A board with the position in which the game began."""
+        if self._refusal is not None:
+            return self.copy(stack=False)
+        start = self._it.copy()
+        start._call(c.lib.jatshegi_board_start, "root")
+        return type(self)(start.fen())
+
+    @property
+    def turn(self) -> Color:
+        """The side to move, which can be set before a move is made."""
+        return self._it.turn if self._refusal is None else self._fields().turn
+
+    @turn.setter
+    def turn(self, color: Color) -> None:
+        self._edit(turn=colour_of(color))
+
+    @property
+    def castling_rights(self) -> Bitboard:
+        """The rooks' squares of the castling rights, which can be set before a move is made."""
+        return sum(BB_SQUARES[_ROOKS[it][0]] for it in self._fields().castling if it != "-")
+
+    @castling_rights.setter
+    def castling_rights(self, rights: Bitboard) -> None:
+        if int(rights) & ~sum(BB_SQUARES[rook] for rook, _ in _ROOKS.values()):
+            refuse("there is no Chess960: castling rights are of a1, h1, a8 and h8")
+        self._edit(castling="".join(it for it, (rook, _) in _ROOKS.items() if int(rights) >> rook & 1) or "-")
+
+    def clean_castling_rights(self) -> Bitboard:
+        """The castling rights that the position has."""
+        return sum(BB_SQUARES[_ROOKS[it][0]] for it in self._fields().kept() if it != "-") if self._refusal is not None else self._it.castling_rights
+
+    @property
+    def ep_square(self) -> Optional[Square]:
+        """The square that a pawn has just passed over, which can be set before a move is made."""
+        return self._fields().target
+
+    @ep_square.setter
+    def ep_square(self, square: Optional[Square]) -> None:
+        self._edit(target=None if square is None else square_of(square))
+
+    @property
+    def halfmove_clock(self) -> int:
+        """How many plies there were since the last pawn's move or capture."""
+        return self._fields().clock if self._refusal is not None else self._it.halfmove_clock
+
+    @halfmove_clock.setter
+    def halfmove_clock(self, number: int) -> None:
+        self._edit(clock=number)
+
+    @property
+    def fullmove_number(self) -> int:
+        """The number of the move."""
+        return self._fields().number if self._refusal is not None else self._it.fullmove_number
+
+    @fullmove_number.setter
+    def fullmove_number(self, number: int) -> None:
+        self._edit(number=number)
+
+    def ply(self) -> int:
+        """How many plies there were since the beginning of move 1."""
+        return 2 * (self.fullmove_number - 1) + (self.turn == BLACK)
+
+    def has_kingside_castling_rights(self, color: Color) -> bool:
+        """Whether that side may still castle with the rook of file h."""
+        return self._game.has_kingside_castling_rights(color)
+
+    def has_queenside_castling_rights(self, color: Color) -> bool:
+        """Whether that side may still castle with the rook of file a."""
+        return self._game.has_queenside_castling_rights(color)
+
+    def has_castling_rights(self, color: Color) -> bool:
+        """Whether that side may still castle."""
+        return self._game.has_castling_rights(color)
+
+    def has_chess960_castling_rights(self) -> bool:
+        """False: there is no Chess960."""
+        return False
+
+    def has_pseudo_legal_en_passant(self) -> bool:
+        """Whether a pawn of the side to move attacks the en passant target."""
+        target = self._game.ep_square
+        return target is not None and bool(self.attackers_mask(self.turn, target) & self.pieces_mask(PAWN, self.turn))
+
+    def has_legal_en_passant(self) -> bool:
+        """Whether a legal move captures en passant."""
+        return self._game.epd().split()[3] != "-"
+
+    # ---- texts
+
+    def fen(self, *, shredder: bool = False, en_passant: str = "legal", promoted: Optional[bool] = None) -> str:
+        """The FEN, with the en passant target if it can be captured on (`legal`), if a pawn attacks it (`xfen`), or always (`fen`)."""
+        return f"{self._position(shredder, en_passant)} {self.halfmove_clock} {self.fullmove_number}"
+
+    def _position(self, shredder: bool, en_passant: str) -> str:
+        if shredder:
+            refuse("there is no Chess960, so no Shredder-FEN")
+        if en_passant not in ("legal", "xfen", "fen"):
+            raise ValueError(f"an en passant target is written as legal, xfen or fen: {en_passant!r}")
+        if self._refusal is None and en_passant == "legal":
+            return self._it.epd()
+        fields = self._fields()
+        is_shown = en_passant == "fen" or self._refusal is None and en_passant == "xfen" and self.has_pseudo_legal_en_passant()
+        return " ".join(fields._replace(castling=fields.kept(), target=fields.target if is_shown else None).text().split()[:4])
+
+    def castling_xfen(self) -> str:
+        """The castling field of the FEN."""
+        return self._position(False, "legal").split()[2]
+
+    def epd(self, *, shredder: bool = False, en_passant: str = "legal", promoted: Optional[bool] = None, **operations: Any) -> str:
+        """The first four fields of the FEN, and the operations."""
+        return " ".join([self._position(shredder, en_passant), *_epd.written(self, operations)])
+
+    def set_epd(self, epd: str) -> Dict[str, Any]:
+        """Begins a game from an EPD, and returns its operations; `hmvc` and `fmvn` are its counters. Raises `ValueError`."""
+        parts = epd.strip().rstrip(";").split(None, 4)
+        if not parts:
+            raise ValueError("an EPD has a position")
+        found = Board(" ".join(parts[:4]))
+        operations = _epd.read(parts[4], found) if len(parts) > 4 else {}
+        fields = found._fields()
+        clock, number = (operations.get(name, default) for name, default in (("hmvc", 0), ("fmvn", 1)))
+        self._begin(fields._replace(clock=int(clock), number=int(number)))
+        return operations
+
+    def __repr__(self) -> str:
+        return f"Board({self.fen()!r})"
+
+    def _repr_svg_(self) -> str:
+        from . import svg
+
+        is_checked = self._refusal is None and self.is_check()
+        return svg.board(self, size=390, lastmove=self.peek() if self.move_stack else None, check=self.king(self.turn) if is_checked else None)
+
+    # ---- copies
+
+    def copy(self: _Of, *, stack: Union[bool, int] = True) -> _Of:
+        """Another board, with all moves before it, with none, or with the last ones."""
+        board = type(self).__new__(type(self))
+        board.__dict__.update(self.__dict__)
+        if self._refusal is not None or stack is True:
+            board._it = self._it.copy()
+            return board
+        moves = self._it.move_stack
+        moves = moves[max(len(moves) - int(stack), 0) :]
+        start = self._it.copy()
+        for _ in moves:
+            start.back()
+        fields = self._fields() if not moves else fields_of(start.fen())
+        board._take(_board.Board())
+        board._begin(fields)
+        for move in moves:
+            board._it.push(move)
+        return board
+
+    def _with(self: _Of, fields: Fields) -> _Of:
+        board = self.copy(stack=False)
+        board._begin(fields)
+        return board
+
+    def apply_mirror(self) -> None:
+        """Turns the ranks round and changes the colours, and the side to move with them. The moves are forgotten."""
+        self._begin(self._mirrored())
+
+    def mirror(self: _Of) -> _Of:
+        """Another board, after `apply_mirror`."""
+        return self._with(self._mirrored())
+
+    def _mirrored(self) -> Fields:
+        men, turn, castling, target, clock, number = self._fields()
+        turned = {at ^ 56: Piece(man.piece_type, not man.color) for at, man in men.items()}
+        return Fields(turned, not turn, "".join(it for it in "KQkq" if it.swapcase() in castling) or "-", None if target is None else target ^ 56, clock, number)
+
+    def apply_transform(self, f: Callable[[Bitboard], Bitboard]) -> None:
+        """Moves each piece to the square that a function of words has for its own, and the castling rights with them. The moves are forgotten."""
+        self._begin(self._transformed(f))
+
+    def transform(self: _Of, f: Callable[[Bitboard], Bitboard]) -> _Of:
+        """Another board, after `apply_transform`."""
+        return self._with(self._transformed(f))
+
+    def _transformed(self, f: Callable[[Bitboard], Bitboard]) -> Fields:
+        fields, rights = self._fields(), f(self.clean_castling_rights())
+        castling = "".join(it for it, (rook, _) in _ROOKS.items() if rights >> rook & 1) or "-"
+        target = None if fields.target is None else f(BB_SQUARES[fields.target]).bit_length() - 1
+        return fields._replace(men=self._turned(f), castling=castling, target=target)
+
+    def __reduce__(self) -> Any:
+        return _restored, (type(self), self._it, self._set, self._refusal)
+
+    def __eq__(self, other: object) -> bool:
+        if not isinstance(other, Board):
+            return NotImplemented
+        return (self._position(False, "legal"), self.halfmove_clock, self.fullmove_number) == (other._position(False, "legal"), other.halfmove_clock, other.fullmove_number)
+
+    __hash__ = None  # type: ignore[assignment]
+
+    # ---- moves
+
+    @property
+    def legal_moves(self) -> LegalMoveGenerator:
+        """The legal moves."""
+        return LegalMoveGenerator(self)
+
+    @property
+    def pseudo_legal_moves(self) -> Any:
+        """Raises `NotImplementedError`: the library answers legal moves alone."""
+        refuse("there are no pseudo-legal moves")
+
+    def generate_legal_moves(self, from_mask: Bitboard = BB_ALL, to_mask: Bitboard = BB_ALL) -> Iterator[Move]:
+        """The legal moves from these squares to those."""
+        return (move for move in self.legal_moves if from_mask >> move.from_square & 1 and to_mask >> move.to_square & 1)
+
+    def generate_legal_captures(self, from_mask: Bitboard = BB_ALL, to_mask: Bitboard = BB_ALL) -> Iterator[Move]:
+        """Those that capture, also en passant."""
+        return (move for move in self.generate_legal_moves(from_mask, to_mask) if self.is_capture(move))
+
+    def generate_legal_ep(self, from_mask: Bitboard = BB_ALL, to_mask: Bitboard = BB_ALL) -> Iterator[Move]:
+        """Those that capture en passant."""
+        return (move for move in self.generate_legal_moves(from_mask, to_mask) if self.is_en_passant(move))
+
+    def generate_castling_moves(self, from_mask: Bitboard = BB_ALL, to_mask: Bitboard = BB_ALL) -> Iterator[Move]:
+        """Those that castle."""
+        return (move for move in self.generate_legal_moves(from_mask, to_mask) if self.is_castling(move))
+
+    def is_legal(self, move: Move) -> bool:
+        """Whether the move is legal."""
+        return bool(move) and self._game.is_legal(move)
+
+    def is_pseudo_legal(self, move: Move) -> bool:
+        """Raises `NotImplementedError`."""
+        refuse("there are no pseudo-legal moves")
+
+    def is_into_check(self, move: Move) -> bool:
+        """Raises `NotImplementedError`."""
+        refuse("there are no pseudo-legal moves")
+
+    def push(self, move: Move) -> None:
+        """Makes a legal move. Raises `IllegalMoveError`, also for the null move."""
+        if not move:
+            raise IllegalMoveError("the null move isn't made: the library makes legal moves alone")
+        self._game.push(move)
+
+    def pop(self) -> Move:
+        """Takes the last move back. Raises `IndexError` if there is none."""
+        return OURS[self._game.pop()]
+
+    def peek(self) -> Move:
+        """The last move. Raises `IndexError` if there is none."""
+        return OURS[self._game.peek()]
+
+    @property
+    def move_stack(self) -> List[Move]:
+        """The moves that were made: a list of the caller's own."""
+        return [] if self._refusal is not None else [OURS[move] for move in self._it.move_stack]
+
+    def find_move(self, from_square: Square, to_square: Square, promotion: Optional[PieceType] = None) -> Move:
+        """The legal move from a square to a square, by default to a queen. Raises `IllegalMoveError`."""
+        return OURS[self._game.find_move(from_square, to_square, promotion)]
+
+    def is_capture(self, move: Move) -> bool:
+        """Whether the legal move captures. Raises `IllegalMoveError`."""
+        return self._game.is_capture(move)
+
+    def is_en_passant(self, move: Move) -> bool:
+        """Whether the legal move captures en passant. Raises `IllegalMoveError`."""
+        return self._game.is_en_passant(move)
+
+    def is_castling(self, move: Move) -> bool:
+        """Whether the legal move castles. Raises `IllegalMoveError`."""
+        return self._game.is_castling(move)
+
+    def is_kingside_castling(self, move: Move) -> bool:
+        """Whether the legal move castles with the rook of file h. Raises `IllegalMoveError`."""
+        return self._game.is_kingside_castling(move)
+
+    def is_queenside_castling(self, move: Move) -> bool:
+        """Whether the legal move castles with the rook of file a. Raises `IllegalMoveError`."""
+        return self._game.is_queenside_castling(move)
+
+    def is_zeroing(self, move: Move) -> bool:
+        """Whether the legal move is a pawn's or captures. Raises `IllegalMoveError`."""
+        return self._game.is_zeroing(move)
+
+    def gives_check(self, move: Move) -> bool:
+        """Whether the legal move gives check. Raises `IllegalMoveError`."""
+        return self._game.gives_check(move)
+
+    def is_irreversible(self, move: Move) -> bool:
+        """Whether the legal move is a pawn's, captures, ends castling rights or a right to capture en passant. Raises `IllegalMoveError`."""
+        if self.is_zeroing(move) or self.has_legal_en_passant():
+            return True
+        after = self._game.copy()
+        after.push(move)
+        return after.castling_rights != self._game.castling_rights
+
+    # ---- moves as texts
+
+    def san(self, move: Move) -> str:
+        """The move in standard algebraic notation; '--' for the null move. Raises `IllegalMoveError`."""
+        return self._game.san(move) if move else "--"
+
+    def lan(self, move: Move) -> str:
+        """The move in long algebraic notation. Raises `IllegalMoveError`."""
+        return self._game.lan(move) if move else "--"
+
+    def san_and_push(self, move: Move) -> str:
+        """The text of a move, which is made."""
+        san = self.san(move)
+        self.push(move)
+        return san
+
+    def variation_san(self, variation: Iterable[Move]) -> str:
+        """The moves in turn with their numbers. Raises `IllegalMoveError`."""
+        return self._game.variation_san(variation)
+
+    def parse_san(self, san: str) -> Move:
+        """The legal move of a text in standard or long algebraic notation. Raises `InvalidMoveError`, `IllegalMoveError` or `AmbiguousMoveError`."""
+        if san in _NULLS:
+            return Move.null()
+        plain = san.replace("0-0", "O-O").replace("-0", "-O") if san.startswith("0-0") else san
+        return OURS[self._game.parse_san(plain if plain.startswith("O") else plain.replace("-", ""))]
+
+    def push_san(self, san: str) -> Move:
+        """The same, and makes it."""
+        move = self.parse_san(san)
+        self.push(move)
+        return move
+
+    def uci(self, move: Move, *, chess960: Optional[bool] = None) -> str:
+        """The move's text as UCI has it."""
+        if chess960:
+            refuse("there is no Chess960")
+        return move.uci()
+
+    def parse_uci(self, uci: str) -> Move:
+        """The legal move of a text as UCI has it. Raises `InvalidMoveError` or `IllegalMoveError`."""
+        move = Move.from_uci(uci)
+        return OURS[self._game.parse_uci(uci)] if move else move
+
+    def push_uci(self, uci: str) -> Move:
+        """The same, and makes it."""
+        move = self.parse_uci(uci)
+        self.push(move)
+        return move
+
+    # ---- attacks
+
+    def attacks(self, square: Square) -> SquareSet:
+        """The squares that the piece on the square attacks."""
+        return SquareSet(self._game.attacks(square).mask)
+
+    def attacks_mask(self, square: Square) -> Bitboard:
+        """The same as a word."""
+        return self._game.attacks(square).mask
+
+    def attackers_mask(self, color: Color, square: Square, occupied: Optional[Bitboard] = None) -> Bitboard:
+        """The squares of the pieces of that colour that attack the square."""
+        if occupied is not None and occupied != self.occupied:
+            refuse("attackers are those of the board's own pieces")
+        return self._game.attackers(color, square).mask
+
+    def attackers(self, color: Color, square: Square, occupied: Optional[Union[int, Iterable[int]]] = None) -> SquareSet:
+        """The same as a set."""
+        return SquareSet(self.attackers_mask(color, square, None if occupied is None else SquareSet(occupied).mask))
+
+    def is_attacked_by(self, color: Color, square: Square, occupied: Optional[Union[int, Iterable[int]]] = None) -> bool:
+        """Whether a piece of that colour attacks the square."""
+        return bool(self.attackers(color, square, occupied))
+
+    def checkers_mask(self) -> Bitboard:
+        """The squares of the pieces that give check."""
+        return self._game._checks()
+
+    def checkers(self) -> SquareSet:
+        """The same as a set."""
+        return SquareSet(self.checkers_mask())
+
+    def is_check(self) -> bool:
+        """Whether the side to move is in check."""
+        return self._game.is_check()
+
+    def was_into_check(self) -> bool:
+        """Whether the side not to move is in check, which no position has."""
+        return self._refusal is not None and self._refusal.fault == _IN_CHECK
+
+    def pin_mask(self, color: Color, square: Square) -> Bitboard:
+        """The line to the king on which the square is pinned; all squares if it isn't. The library says which rooks, bishops and queens attack the square."""
+        king, square = self._game.king(color), square_of(square)
+        if between(king, square) & self.occupied:
+            return BB_ALL
+        line = ray(king, square)
+        sliders = (self.pieces_mask(kind, not color) for kind in (BISHOP, ROOK, QUEEN))
+        attacking = self.attackers_mask(not color, square) & line & sum(sliders)
+        return line if any(between(king, it) >> square & 1 for it in scan_forward(attacking)) else BB_ALL
+
+    def pin(self, color: Color, square: Square) -> SquareSet:
+        """The same as a set."""
+        return SquareSet(self.pin_mask(color, square))
+
+    def is_pinned(self, color: Color, square: Square) -> bool:
+        """Whether the square is pinned to that side's king."""
+        return self.pin_mask(color, square) != BB_ALL
+
+    # ---- how the game ends
+
+    def status(self) -> Status:
+        """What is wrong with the position. `IMPOSSIBLE_CHECK` is never found."""
+        men, found = self._men_now(), Status.VALID
+        if not men:
+            found |= Status.EMPTY
+        for color, name in ((WHITE, "WHITE"), (BLACK, "BLACK")):
+            kings, pawns, all_men = counts(men, color)
+            found |= Status.VALID if kings else Status[f"NO_{name}_KING"]
+            found |= Status.TOO_MANY_KINGS if kings > 1 else Status.VALID
+            found |= Status[f"TOO_MANY_{name}_PAWNS"] if pawns > 8 else Status.VALID
+            found |= Status[f"TOO_MANY_{name}_PIECES"] if all_men > 16 else Status.VALID
+        if pawns_on_last_ranks(men):
+            found |= Status.PAWNS_ON_BACKRANK
+        if self.castling_rights != self.clean_castling_rights():
+            found |= Status.BAD_CASTLING_RIGHTS
+        if self.was_into_check():
+            found |= Status.OPPOSITE_CHECK
+        if self._refusal is None and self.ep_square != self._it.ep_square:
+            found |= Status.INVALID_EP_SQUARE
+        if self._refusal is None and popcount(self.checkers_mask()) > 2:
+            found |= Status.TOO_MANY_CHECKERS
+        return found
+
+    def is_valid(self) -> bool:
+        """Whether nothing is wrong with the position."""
+        return self.status() == Status.VALID
+
+    def outcome(self, *, claim_draw: bool = False) -> Optional[Outcome]:
+        """How the game ended, or None if it goes on. With `claim_draw` it ends if the side to move may claim a draw."""
+        found = self._game.outcome(claim_draw=claim_draw)
+        if found is None or found.winner is not None:
+            return found
+        # (python-chess asks in this order, if several hold)
+        for holds, why in ((self.is_insufficient_material, Termination.INSUFFICIENT_MATERIAL), (self.is_stalemate, Termination.STALEMATE), (self.is_seventyfive_moves, Termination.SEVENTYFIVE_MOVES)):
+            if holds():
+                return Outcome(why, None)
+        return found
+
+    def result(self, *, claim_draw: bool = False) -> str:
+        """'1-0', '0-1', '1/2-1/2', or '*'."""
+        found = self.outcome(claim_draw=claim_draw)
+        return "*" if found is None else found.result()
+
+    def is_game_over(self, *, claim_draw: bool = False) -> bool:
+        """Whether the game has ended."""
+        return self._game.is_game_over(claim_draw=claim_draw)
+
+    def is_checkmate(self) -> bool:
+        """Whether the side to move is mated."""
+        return self._game.is_checkmate()
+
+    def is_stalemate(self) -> bool:
+        """Whether the side to move is stalemated."""
+        return self._game.is_stalemate()
+
+    def has_insufficient_material(self, color: Color) -> bool:
+        """Whether that side can never mate: it has only its king, or nobody can mate."""
+        return self._game.has_insufficient_material(color)
+
+    def is_insufficient_material(self) -> bool:
+        """Whether neither side can mate."""
+        return all(self.has_insufficient_material(color) for color in COLORS)
+
+    def is_seventyfive_moves(self) -> bool:
+        """Whether there were 75 moves of each side without a capture or a pawn's move."""
+        return self.halfmove_clock >= 150 and bool(self.legal_moves)
+
+    def is_fifty_moves(self) -> bool:
+        """Whether there were 50 moves of each side without a capture or a pawn's move."""
+        return self.halfmove_clock >= 100 and bool(self.legal_moves)
+
+    def is_fivefold_repetition(self) -> bool:
+        """Whether the position has come up five times."""
+        return self.is_repetition(5)
+
+    def is_repetition(self, count: int = 3) -> bool:
+        """Whether the position has come up that often."""
+        return self._game.is_repetition(count)
+
+    def can_claim_draw(self) -> bool:
+        """Whether the side to move may claim a draw by 50 moves or by repetition."""
+        return self._game.can_claim_draw()
+
+    def can_claim_fifty_moves(self) -> bool:
+        """Whether the side to move may claim a draw by 50 moves."""
+        return self._game.can_claim_fifty_moves()
+
+    def can_claim_threefold_repetition(self) -> bool:
+        """Whether the side to move may claim a draw by repetition."""
+        return self._game.can_claim_threefold_repetition()
+
+    def is_variant_end(self) -> bool:
+        """False: there are no variants."""
+        return False
+
+    is_variant_win = is_variant_loss = is_variant_draw = is_variant_end
+
+
+def _restored(of: Type[_Of], board: _board.Board, fields: Optional[Fields], refusal: Optional[InvalidFenError]) -> _Of:
+    """The board of a pickle."""
+    found = of._of(board)
+    found._set, found._refusal = fields, refusal
+    return found

@@ -1,0 +1,308 @@
+"""`jatshegi.compat`: programs that were written for python-chess, its documentation's examples, and what is refused."""
+import copy
+import importlib
+import os
+import pickle
+import shutil
+import subprocess
+import sys
+import tempfile
+import textwrap
+import unittest
+
+import runs
+
+PACKAGE = f"{runs.TOP}/python"
+
+
+def setUpModule():
+    runs.make("libraries")
+    sys.path.insert(0, PACKAGE)
+    global chess
+    chess = importlib.import_module("jatshegi.compat")
+
+
+def tearDownModule():
+    sys.path.remove(PACKAGE)
+
+
+def played(sans, fen=None):
+    board = chess.Board() if fen is None else chess.Board(fen)
+    for san in sans.split():
+        board.push_san(san)
+    return board
+
+
+class Names(unittest.TestCase):
+    def test_constants(self):
+        self.assertEqual((chess.COLORS, chess.COLOR_NAMES[chess.WHITE]), ([True, False], "white"))
+        self.assertEqual((chess.PIECE_TYPES, chess.PIECE_SYMBOLS[chess.KNIGHT], chess.PIECE_NAMES[chess.KNIGHT]), ([1, 2, 3, 4, 5, 6], "n", "knight"))
+        self.assertEqual((chess.piece_name(chess.QUEEN), chess.piece_symbol(chess.ROOK), chess.UNICODE_PIECE_SYMBOLS["K"]), ("queen", "r", "♔"))
+        self.assertEqual((chess.FILE_NAMES[0], chess.RANK_NAMES[7], chess.SQUARES_180[chess.A1] == chess.A8), ("a", "8", True))
+        self.assertEqual((chess.BB_E4, chess.BB_FILE_A, chess.BB_RANK_8), (1 << 28, 0x0101010101010101, 0xFF << 56))
+        self.assertEqual((chess.BB_CORNERS, chess.BB_BACKRANKS), (0x8100000000000081, 0xFF000000000000FF))
+        self.assertEqual(chess.BB_LIGHT_SQUARES ^ chess.BB_DARK_SQUARES, chess.BB_ALL)
+        self.assertTrue(chess.BB_DARK_SQUARES & chess.BB_A1)
+        self.assertEqual([it.value for it in chess.Termination], list(range(1, 8)))
+        self.assertEqual((chess.STATUS_OPPOSITE_CHECK, chess.Status.EMPTY | chess.Status.NO_WHITE_KING | chess.Status.NO_BLACK_KING), (1024, 2051))
+
+    def test_functions_of_squares_and_words(self):
+        self.assertEqual((chess.square(4, 3), chess.parse_square("e4"), chess.square_name(28)), (28, 28, "e4"))
+        self.assertEqual((chess.square_distance(chess.A1, chess.H7), chess.square_manhattan_distance(chess.A1, chess.H7)), (7, 13))
+        self.assertEqual((chess.square_knight_distance(chess.A1, chess.B2), chess.square_mirror(chess.E4)), (4, chess.E5))
+        self.assertEqual((chess.lsb(0b1100), chess.msb(0b1100), chess.popcount(0xF0F)), (2, 3, 8))
+        self.assertEqual((list(chess.scan_forward(0b1010)), list(chess.scan_reversed(0b1010))), ([1, 3], [3, 1]))
+        self.assertEqual((chess.flip_vertical(chess.BB_A1), chess.flip_horizontal(chess.BB_A1), chess.flip_diagonal(chess.BB_B1)), (chess.BB_A8, chess.BB_H1, chess.BB_A2))
+        self.assertEqual(chess.flip_anti_diagonal(chess.BB_A1), chess.BB_H8)
+        self.assertEqual((chess.shift_right(chess.BB_H4), chess.shift_left(chess.BB_B4), chess.shift_up(chess.BB_A8)), (0, chess.BB_A4, 0))
+        self.assertEqual(chess.between(chess.A1, chess.D4), chess.BB_B2 | chess.BB_C3)
+        self.assertEqual((chess.between(chess.A1, chess.B3), chess.between(chess.A1, chess.A2), chess.between(chess.A1, chess.A1)), (0, 0, 0))
+        self.assertEqual((chess.ray(chess.C3, chess.C4), chess.ray(chess.A1, chess.B3)), (chess.BB_FILE_C, 0))
+        with self.assertRaises(ValueError):
+            chess.parse_square("i9")
+
+    def test_moves_and_pieces(self):
+        null = chess.Move.null()
+        self.assertEqual((bool(null), null.uci(), null == chess.Move.from_uci("0000"), repr(null)), (False, "0000", True, "Move.from_uci('0000')"))
+        move = chess.Move.from_uci("a7a8q")
+        self.assertEqual((bool(move), move.promotion, move.drop, move.uci(), {move: 1}[chess.Move(48, 56, 5)]), (True, chess.QUEEN, None, "a7a8q", 1))
+        for text in ("e2", "e2e2", "e2e4k"):
+            self.assertRaises(chess.InvalidMoveError, chess.Move.from_uci, text)
+        piece = chess.Piece.from_symbol("n")
+        self.assertEqual((piece, str(piece), piece.unicode_symbol(), piece.unicode_symbol(invert_color=True)), (chess.Piece(chess.KNIGHT, chess.BLACK), "n", "♞", "♘"))
+        self.assertEqual(pickle.loads(pickle.dumps([null, piece, move])), [null, piece, move])
+
+    def test_sets_of_squares(self):
+        squares = chess.SquareSet([chess.A8, chess.A1])
+        self.assertEqual((repr(squares), len(squares), list(squares), chess.A1 in squares), ("SquareSet(0x0100_0000_0000_0001)", 2, [0, 56], True))
+        self.assertEqual(squares | chess.BB_H1, chess.SquareSet([0, 7, 56]))
+        self.assertEqual((int(~squares & chess.BB_FILE_A), chess.SquareSet(~0) == chess.BB_ALL, squares == {0, 56}, squares == "x"), (0x0001010101010100, True, True, False))
+        squares ^= ~0
+        self.assertEqual((type(squares), len(squares), squares << 63, squares >> 62), (chess.SquareSet, 62, 0, 3))
+        self.assertEqual(sorted(chess.SquareSet(0b101).carry_rippler()), [0, 1, 4, 5])
+        self.assertEqual(chess.SquareSet.between(chess.A1, chess.C3) | chess.SquareSet.ray(chess.A1, chess.A2) & chess.BB_A2, chess.BB_B2 | chess.BB_A2)
+        self.assertEqual((squares.pop(), chess.SquareSet(6).issubset(-1), 1 - chess.SquareSet(3)), (1, True, 0))
+        self.assertRaises(KeyError, chess.SquareSet().pop)
+
+
+class Boards(unittest.TestCase):
+    def test_the_first_page_of_the_documentation(self):
+        board = chess.Board()
+        self.assertTrue(repr(board.legal_moves).endswith("(Na3, Nc3, Nf3, Nh3, a3, a4, b3, b4, c3, c4, d3, d4, e3, e4, f3, f4, g3, g4, h3, h4)>"))
+        self.assertNotIn(chess.Move.from_uci("a8a1"), board.legal_moves)
+        for san in ("e4", "e5", "Qh5", "Nc6", "Bc4", "Nf6", "Qxf7"):
+            self.assertIsInstance(board.push_san(san), chess.Move)
+        self.assertTrue(board.is_checkmate())
+        self.assertEqual(repr(board), "Board('r1bqkb1r/pppp1Qpp/2n2n2/4p3/2B1P3/8/PPPP1PPP/RNB1K1NR b KQkq - 0 4')")
+        self.assertEqual(board.outcome(), chess.Outcome(chess.Termination.CHECKMATE, chess.WHITE))
+        self.assertEqual((board.result(), board.is_game_over(), bool(board.legal_moves), board.legal_moves.count()), ("1-0", True, False, 0))
+        self.assertEqual(board.pop(), chess.Move.from_uci("h5f7"))
+        self.assertEqual((board.ply(), board.turn, board.fullmove_number, board.peek().uci()), (6, chess.WHITE, 4, "g8f6"))
+
+    def test_perft(self):
+        def perft(board, depth):
+            if not depth:
+                return 1
+            count = 0
+            for move in board.legal_moves:
+                board.push(move)
+                count += perft(board, depth - 1)
+                board.pop()
+            return count
+
+        self.assertEqual(perft(chess.Board(), 3), 8902)
+        self.assertEqual(perft(chess.Board("r3k2r/p1ppqpb1/bn2pnp1/3PN3/1p2P3/2N2Q1p/PPPBBPPP/R3K2R w KQkq -"), 2), 2039)
+
+    def test_texts_of_moves(self):
+        board = chess.Board()
+        self.assertEqual([board.parse_san(text).uci() for text in ("Nf3", "Ng1-f3", "e2-e4", "e2e4")], ["g1f3", "g1f3", "e2e4", "e2e4"])
+        self.assertEqual((board.parse_san("--"), board.san(chess.Move.null())), (chess.Move.null(), "--"))
+        self.assertEqual((board.lan(chess.Move.from_uci("g1f3")), board.uci(chess.Move.from_uci("g1f3"))), ("Ng1-f3", "g1f3"))
+        self.assertEqual(board.variation_san([chess.Move.from_uci(m) for m in ["e2e4", "e7e5", "g1f3"]]), "1. e4 e5 2. Nf3")
+        castles = chess.Board("r3k2r/8/8/8/8/8/8/R3K2R w KQkq - 0 1")
+        self.assertEqual([castles.parse_san(text).uci() for text in ("O-O", "0-0", "O-O-O", "0-0-0")], ["e1g1", "e1g1", "e1c1", "e1c1"])
+        self.assertTrue(castles.is_kingside_castling(castles.parse_san("0-0")))
+        for text, error in (("Ke2", chess.IllegalMoveError), ("xx", chess.InvalidMoveError), ("e2-e5", chess.IllegalMoveError)):
+            self.assertRaises(error, board.push_san, text)
+        self.assertRaises(chess.AmbiguousMoveError, chess.Board("4k3/8/8/8/8/8/4K3/R6R w - - 0 1").parse_san, "Rd1")
+        self.assertEqual((board.push_uci("e2e4").uci(), board.find_move(chess.E7, chess.E5).uci(), len(board.move_stack)), ("e2e4", "e7e5", 1))
+
+    def test_the_target_of_en_passant_in_a_fen(self):
+        board = played("e4")
+        self.assertEqual([board.fen(en_passant=word).split()[3] for word in ("legal", "xfen", "fen")], ["-", "-", "e3"])
+        self.assertEqual(board.ep_square, chess.E3)
+        pinned = chess.Board("8/8/8/K1pP3r/8/8/8/4k3 w - c6 0 2")
+        self.assertEqual([pinned.fen(en_passant=word).split()[3] for word in ("legal", "xfen", "fen")], ["-", "c6", "c6"])
+        self.assertEqual((pinned.has_legal_en_passant(), pinned.has_pseudo_legal_en_passant()), (False, True))
+        self.assertRaises(ValueError, board.fen, en_passant="often")
+
+    def test_rights_words_and_counters(self):
+        board = chess.Board()
+        self.assertEqual((board.castling_rights, board.clean_castling_rights()), (chess.BB_CORNERS, chess.BB_CORNERS))
+        self.assertTrue(board.castling_rights & chess.BB_H1)
+        self.assertEqual((board.occupied_co[chess.WHITE], board.occupied, board.pawns & board.occupied_co[chess.BLACK]), (0xFFFF, 0xFFFF00000000FFFF, chess.BB_RANK_7))
+        self.assertEqual((board.kings, board.knights & 0xFF, board.pieces_mask(chess.ROOK, chess.WHITE)), (chess.BB_E1 | chess.BB_E8, chess.BB_B1 | chess.BB_G1, chess.BB_A1 | chess.BB_H1))
+        board.turn = chess.BLACK
+        board.castling_rights = chess.BB_A1 | chess.BB_H8
+        self.assertEqual((board.fen(), board.has_kingside_castling_rights(chess.WHITE)), ("rnbqkbnr/pppppppp/8/8/8/8/PPPPPPPP/RNBQKBNR b Qk - 0 1", False))
+        moved = played("Nf3")
+        with self.assertRaisesRegex(ValueError, "clear_stack"):
+            moved.turn = chess.WHITE
+        moved.clear_stack()
+        moved.turn = chess.WHITE
+        self.assertEqual((moved.move_stack, moved.fen().split()[1]), ([], "w"))
+
+    def test_masks_of_moves(self):
+        board = chess.Board("r3k2r/8/8/3pP3/8/8/8/R3K2R w KQkq d6 0 2")
+        self.assertEqual({move.uci() for move in board.generate_legal_moves(from_mask=chess.BB_E5)}, {"e5e6", "e5d6"})
+        self.assertEqual({move.uci() for move in board.generate_legal_captures()}, {"e5d6", "a1a8", "h1h8"})
+        self.assertEqual({move.uci() for move in board.generate_legal_captures(to_mask=chess.BB_RANK_8)}, {"a1a8", "h1h8"})
+        self.assertEqual({move.uci() for move in board.generate_castling_moves()}, {"e1g1", "e1c1"})
+        self.assertEqual([move.uci() for move in board.generate_legal_ep()], ["e5d6"])
+        self.assertTrue(board.is_irreversible(chess.Move.from_uci("e1e2")))
+        self.assertFalse(chess.Board().is_irreversible(chess.Move.from_uci("g1f3")))
+
+    def test_attacks_and_pins(self):
+        board = chess.Board("rnb1k2r/ppp2ppp/5n2/3q4/1b1P4/2N5/PP3PPP/R1BQKBNR w KQkq - 3 7")
+        self.assertTrue(board.is_pinned(chess.WHITE, chess.C3))
+        self.assertEqual(board.pin(chess.WHITE, chess.C3), chess.SquareSet(0x0000_0001_0204_0810))
+        self.assertEqual((board.pin(chess.WHITE, chess.D4), board.is_pinned(chess.BLACK, chess.F6)), (chess.BB_ALL, False))
+        start = chess.Board()
+        self.assertEqual(repr(start.attackers(chess.WHITE, chess.F3)), "SquareSet(0x0000_0000_0000_5040)")
+        self.assertEqual((start.attackers(color=chess.BLACK, square=chess.E4), start.is_attacked_by(chess.WHITE, chess.F3)), (0, True))
+        self.assertEqual((start.attacks(chess.G1), start.attacks_mask(chess.A1)), (chess.SquareSet([chess.E2, chess.F3, chess.H3]), chess.BB_A2 | chess.BB_B1))
+        check = played("e4 f5 Qh5+")
+        self.assertEqual((check.checkers(), check.is_check(), check.king(chess.BLACK)), (chess.SquareSet([chess.H5]), True, chess.E8))
+
+    def test_pins_are_those_that_legal_moves_show(self):
+        """A knight that is pinned has no legal move."""
+        board = chess.Board("4k3/4r3/8/q7/8/2N1N3/8/4K2b w - - 0 1")
+        pinned = {at for at in chess.SquareSet(board.occupied_co[chess.WHITE]) if board.is_pinned(chess.WHITE, at)}
+        self.assertEqual(pinned, {chess.C3, chess.E3})
+        for at in pinned:
+            self.assertEqual(list(board.generate_legal_moves(from_mask=chess.BB_SQUARES[at])), [])
+
+    def test_a_position_that_is_none(self):
+        board = chess.Board("8/8/8/8/4N3/8/8/8 w - - 0 1")
+        self.assertEqual((board.piece_at(chess.E4), board.status()), (chess.Piece(chess.KNIGHT, chess.WHITE), chess.Status.NO_WHITE_KING | chess.Status.NO_BLACK_KING))
+        self.assertEqual((board.is_valid(), board.fen()), (False, "8/8/8/8/4N3/8/8/8 w - - 0 1"))
+        for call in (board.is_check, board.legal_moves.count, board.outcome, lambda: board.push_san("Nf6"), lambda: board.attacks(chess.E4)):
+            with self.assertRaisesRegex(ValueError, "each side has one king"):
+                call()
+        self.assertEqual(chess.Board("4k3/8/8/8/8/8/4r3/4K3 b - - 0 1").status(), chess.Status.OPPOSITE_CHECK)
+        self.assertEqual(chess.Board("4k3/8/8/8/8/8/8/4K3 w KQ - 0 1").status(), chess.STATUS_BAD_CASTLING_RIGHTS)
+        self.assertEqual(chess.Board("P3k3/8/8/8/8/8/8/4K3 w - - 0 1").status(), chess.STATUS_PAWNS_ON_BACKRANK)
+        for fen in ("", "8/8", "8/8/8/8/8/8/8/7x w - - 0 1", "8/8/8/8/8/8/8/44 w - - 0 1", "8/8/8/8/8/8/8/8 x - - 0 1", "8/8/8/8/8/8/8/8 w - - a 1", "8/8/8/8/8/8/8/8/8 w - - 0 1"):
+            with self.assertRaises(ValueError, msg=fen):
+                chess.Board(fen)
+
+    def test_an_editor_sets_one_piece_at_a_time(self):
+        board = chess.Board.empty()
+        self.assertEqual((board.status() & chess.Status.EMPTY, board == chess.Board(None)), (chess.Status.EMPTY, True))
+        board.set_piece_at(chess.E1, chess.Piece(chess.KING, chess.WHITE))
+        board.set_piece_at(chess.H1, chess.Piece.from_symbol("R"))
+        board.castling_rights = chess.BB_H1
+        board.set_piece_at(chess.E8, chess.Piece.from_symbol("k"))
+        self.assertEqual((board.fen(), board.is_valid()), ("4k3/8/8/8/8/8/8/4K2R w K - 0 1", True))
+        self.assertIn(chess.Move.from_uci("e1g1"), board.legal_moves)
+        self.assertEqual(board.remove_piece_at(chess.H1), chess.Piece.from_symbol("R"))
+        board.set_piece_at(chess.H1, chess.Piece.from_symbol("R"))
+        self.assertTrue(board.has_kingside_castling_rights(chess.WHITE))
+        board.clear()
+        self.assertEqual((board.fen(), board.piece_map()), ("8/8/8/8/8/8/8/8 w - - 0 1", {}))
+        board.set_board_fen("4k3/8/8/8/8/8/8/4K3")
+        self.assertEqual(len(list(board.legal_moves)), 5)
+
+    def test_pieces_alone(self):
+        men = chess.BaseBoard.empty()
+        men.set_piece_at(chess.E4, chess.Piece.from_symbol("N"))
+        self.assertEqual((men.board_fen(), men.piece_map(), repr(men)), ("8/8/8/8/4N3/8/8/8", {chess.E4: "N"}, "BaseBoard('8/8/8/8/4N3/8/8/8')"))
+        self.assertEqual((men.mirror().board_fen(), men.transform(chess.flip_horizontal).board_fen()), ("8/8/8/4n3/8/8/8/8", "8/8/8/8/3N4/8/8/8"))
+        self.assertEqual(chess.svg.board(men).count("translate"), 1)
+        self.assertEqual(chess.BaseBoard().unicode().splitlines()[0], "♜ ♞ ♝ ♛ ♚ ♝ ♞ ♜")
+        self.assertEqual(chess.Board().unicode(borders=True).splitlines()[1], "8 |♜|♞|♝|♛|♚|♝|♞|♜|")
+
+    def test_copies(self):
+        board = played("e4 e5 Nf3 Nc6")
+        self.assertEqual([len(board.copy(stack=stack).move_stack) for stack in (True, False, 1, 9)], [4, 0, 1, 4])
+        self.assertEqual([board.copy(stack=stack) == board for stack in (True, False, 1)], [True, True, True])
+        for other in (copy.copy(board), copy.deepcopy(board), pickle.loads(pickle.dumps(board))):
+            self.assertEqual((other, other.move_stack), (board, board.move_stack))
+            other.pop()
+            self.assertNotEqual(other, board)
+        self.assertEqual((board.root(), len(board.move_stack)), (chess.Board(), 4))
+        self.assertEqual(played("e4").mirror().fen(), "rnbqkbnr/pppp1ppp/8/4p3/8/8/PPPPPPPP/RNBQKBNR w KQkq - 0 1")
+
+    def test_epd(self):
+        board, operations = chess.Board.from_epd('r1bqkb1r/pppp1ppp/2n2n2/4p2Q/2B1P3/8/PPPP1PPP/RNB1K1NR w KQkq - bm Qxf7#; id "a; \\"b\\""; ce 12; acd 1.5; draw_offer; hmvc 4; fmvn 4;')
+        self.assertEqual(operations, {"bm": [chess.Move.from_uci("h5f7")], "id": 'a; "b"', "ce": 12, "acd": 1.5, "draw_offer": None, "hmvc": 4, "fmvn": 4})
+        self.assertEqual((board.halfmove_clock, board.fullmove_number), (4, 4))
+        self.assertEqual(chess.Board.from_epd(board.epd(**operations)), (board, operations))
+        start = chess.Board()
+        self.assertEqual(start.epd(hmvc=0, fmvn=1), "rnbqkbnr/pppppppp/8/8/8/8/PPPPPPPP/RNBQKBNR w KQkq - hmvc 0; fmvn 1;")
+        self.assertEqual(start.epd(pv=[chess.Move.from_uci("e2e4"), chess.Move.from_uci("e7e5")], sm=chess.Move.from_uci("e2e4")).split("- ")[1], "pv e4 e5; sm e4;")
+        for epd in ("", "8/8/8/8 w - -", "4k3/8/8/8/8/8/8/4K3 w - - bm Qh5;", "4k3/8/8/8/8/8/8/4K3 w - - 5 6;"):
+            with self.assertRaises(ValueError, msg=epd):
+                chess.Board.from_epd(epd)
+
+    def test_how_games_end(self):
+        shuffled = played("Nf3 Nf6 Ng1 Ng8 " * 2)
+        self.assertEqual((shuffled.is_repetition(), shuffled.can_claim_threefold_repetition(), shuffled.outcome()), (True, True, None))
+        self.assertEqual(shuffled.outcome(claim_draw=True).termination.name, "THREEFOLD_REPETITION")
+        self.assertEqual((shuffled.result(claim_draw=True), played("Nf3 Nf6 Ng1 Ng8 " * 4).outcome().termination), ("1/2-1/2", chess.Termination.FIVEFOLD_REPETITION))
+        fifty = chess.Board("7k/8/8/8/8/8/R7/K7 w - - 99 80")
+        self.assertEqual((fifty.can_claim_fifty_moves(), fifty.is_fifty_moves(), fifty.can_claim_draw()), (True, False, True))
+        self.assertEqual(chess.Board("7k/8/8/8/8/8/R7/K7 w - - 150 80").outcome().termination, chess.Termination.SEVENTYFIVE_MOVES)
+        bare = chess.Board("4k3/8/8/8/8/8/8/4K3 w - - 0 1").outcome()
+        self.assertEqual((bare.termination.name, bare.winner, bare.result(), bool(bare.termination)), ("INSUFFICIENT_MATERIAL", None, "1/2-1/2", True))
+        self.assertEqual(chess.Board("7k/8/6Q1/8/8/8/8/K7 b - - 0 1").outcome().termination, chess.Termination.STALEMATE)
+
+    def test_what_is_refused(self):
+        board = chess.Board()
+        for call in (
+            lambda: chess.Board(chess960=True),
+            lambda: board.pseudo_legal_moves,
+            lambda: board.is_pseudo_legal(chess.Move.from_uci("e2e4")),
+            lambda: board.fen(shredder=True),
+            lambda: board.set_chess960_pos(518),
+            lambda: board.attackers(chess.WHITE, chess.E4, chess.BB_ALL),
+        ):
+            self.assertRaises(NotImplementedError, call)
+        with self.assertRaisesRegex(ValueError, "null move"):
+            board.push(chess.Move.null())
+        self.assertRaises(chess.IllegalMoveError, board.push, chess.Move.from_uci("e2e5"))
+        self.assertRaises(IndexError, board.pop)
+        self.assertEqual(board, chess.Board())
+
+
+class Pages(unittest.TestCase):
+    def test_the_page_says_how_many_names_there_are(self):
+        with open(f"{runs.TOP}/docs/PYTHON.md", encoding="utf-8") as page:
+            self.assertIn(f"`jatshegi.compat` has {len(set(chess.__all__))} names of python-chess", page.read())
+        self.assertEqual([name for name in chess.__all__ if not hasattr(chess, name)], [])
+
+
+class Types(unittest.TestCase):
+    def test_types(self):
+        if not shutil.which("mypy"):
+            self.skipTest("mypy is not on the path")
+        uses = """
+            import jatshegi.compat as chess
+            board = chess.Board()
+            names: list[str] = [board.san(move) for move in board.legal_moves]
+            squares: chess.SquareSet = board.attackers(chess.WHITE, chess.E4) | chess.BB_E4
+            outcome = board.outcome(claim_draw=True)
+            print(names, squares, None if outcome is None else outcome.termination.name, board.copy(stack=False).status())
+            board.push("e4")
+        """
+        with tempfile.TemporaryDirectory() as folder:
+            with open(f"{folder}/uses.py", "w", encoding="utf-8") as file:
+                file.write(textwrap.dedent(uses))
+            words = ["mypy", "--strict", "--cache-dir", f"{folder}/cache", f"{folder}/uses.py"]
+            ran = subprocess.run(words, env={**os.environ, "MYPYPATH": PACKAGE}, capture_output=True, text=True)
+        # The last line is the one that the call refuses, too.
+        self.assertEqual([line.split(":")[1] for line in ran.stdout.splitlines() if ": error" in line], ["8"], ran.stdout)
+
+
+if __name__ == "__main__":
+    unittest.main()
