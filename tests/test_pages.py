@@ -140,6 +140,22 @@ class Pages(unittest.TestCase):
         self.assertEqual((ran.returncode, ran.stderr), (0, ""), f"put it in anew: tools/quote\n{ran.stdout}")
         self.assertGreater(int(re.search(r"(\d+) quotations", ran.stdout)[1]), 20)
 
+    def test_the_tour_prints_a_refusal_of_the_sources_as_they_are(self):
+        """Its place is that of an answer which the page quotes, and it is about the function that the page quotes and that its command names."""
+        tour = text_of("docs/TOUR.md")
+        crate, function = re.search(r"^    tools/check (\w+) --only (\S+)$", tour, flags=re.M).groups()
+        path, line, column, goal = re.search(r"^    \./(proofs/\S+?):(\d+):(\d+): error: `(.*?)`", tour, flags=re.M).groups()
+        answer = text_of(f"crates/{crate}/{path}").splitlines()[int(line) - 1]
+        self.assertEqual(len(answer) - len(answer.lstrip()) + 1, int(column))
+        self.assertIn(f"<!-- from crates/{crate}/{path}: {goal} -->\n", tour)
+        self.assertIn(f"\n{answer}\n", tour)
+        self.assertIn(f"    fn {function}: not proved\n", tour)
+        proved = re.findall(r"^    fn (\w+)::(\w+)::(\w+): (?:not )?proved$", tour, flags=re.M)
+        self.assertIn(f"    only={len(proved)} proved={len(proved) - 1}\n", tour)
+        for crate, module, name in proved:
+            with self.subTest(function=name):
+                self.assertRegex(text_of(f"crates/{crate}/src/{module}.rt"), rf"\bfn {name}\b")
+
     def test_no_promise_is_long(self):
         """A paragraph, or a point of a list, has at most 100 words; a table may be as long as it is."""
         prose = re.sub(r"^```.*?^```$", "", text_of("docs/PROMISES.md"), flags=re.M | re.S)
