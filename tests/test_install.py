@@ -215,7 +215,7 @@ class Installed(Used):
         self.assertTrue(ran.stdout.startswith(f"{self.folder}/.local/lib/"), ran.stderr)
 
     def test_links_of_the_installed_pages(self):
-        """They lead to an installed page, or to what a clone alone has: the sources, the suite and the examples."""
+        """They lead to an installed page, or to what a clone alone has: the sources, the tools, the suite and the examples."""
         there = f"{self.folder}/there"
         make("install", f"PREFIX={there}")
         top = f"{there}/share/doc/jatshegi"
@@ -225,7 +225,7 @@ class Installed(Used):
             with open(f"{top}/{page}", encoding="utf-8") as file:
                 for target in re.findall(r"\]\(([^)#\s]+)[^)]*\)", file.read()):
                     path = os.path.normpath(f"{os.path.dirname(page)}/{target}".lstrip("/"))
-                    if "://" not in target and not path.startswith(("crates/", "suite/", "examples/", ".github/", "CONTRIBUTING.md")):
+                    if "://" not in target and not path.startswith(("crates/", "tools/", "suite/", "examples/", ".github/", "CONTRIBUTING.md")):
                         with self.subTest(page=page, target=target):
                             self.assertTrue(os.path.exists(f"{top}/{path}"))
 

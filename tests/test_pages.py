@@ -7,7 +7,7 @@ import unittest
 
 import runs
 
-PAGES = ["README.md", "CONTRIBUTING.md", "CHANGELOG.md", "SECURITY.md", "crates/README.md", "examples/README.md", "web/jatshegi/README.md", "suite/README.md"]
+PAGES = ["README.md", "CONTRIBUTING.md", "CHANGELOG.md", "SECURITY.md", "crates/README.md", "examples/README.md", "tools/README.md", "web/jatshegi/README.md", "suite/README.md"]
 PAGES += sorted(it for folder in ("docs", ".github", ".github/ISSUE_TEMPLATE") for it in glob.glob(f"{folder}/*.md", root_dir=runs.TOP))
 
 # Words that no source has: commands of the machine, letters of men and moves, a move that is not read, and a name that stands for others.
@@ -114,6 +114,17 @@ class Pages(unittest.TestCase):
                     with self.subTest(page=page, target=target, anchor=anchor):
                         self.assertIn(anchor, [re.sub(r"[^\w\- ]", "", it.lower()).replace(" ", "-") for it in headings])
 
+    def test_the_index_has_each_page_once(self):
+        """That of docs/, in the folder and for the reader of the repository."""
+        linked = re.findall(r"\]\((\w+\.md)\)", text_of("docs/README.md"))
+        self.assertEqual(sorted(linked), sorted(set(glob.glob("*.md", root_dir=f"{runs.TOP}/docs")) - {"README.md"}))
+        self.assertIn("[All pages](docs/README.md)", text_of("README.md"))
+
+    def test_the_index_of_tools_has_each_file_once(self):
+        first = re.findall(r"^\| `([^` ]+)` \|", text_of("tools/README.md"), flags=re.M)
+        files = [name for name in os.listdir(f"{runs.TOP}/tools") if os.path.isfile(f"{runs.TOP}/tools/{name}")]
+        self.assertEqual(sorted(first), sorted(set(files) - {"README.md"}))
+
     def test_no_file_is_a_link(self):
         """`rt ci` proves nothing in a repository that has one."""
         links = [f"{at}/{name}" for at, below, names in os.walk(runs.TOP) for name in below + names if os.path.islink(f"{at}/{name}")]
@@ -132,7 +143,7 @@ class Pages(unittest.TestCase):
                 for path in re.findall(r"[\w./*-]+\.(?:rt|antt|edit|md|txt|py)\b|(?:crates|docs|suite|tools|tests|release)/[\w./*-]+", text):
                     with self.subTest(page=page, path=path):
                         shape = re.escape(path.rstrip("/.")).replace(r"\*", "[^/]*")
-                        there = os.path.exists(f"{runs.TOP}/{path}") or any(re.search(f"(^|/){shape}($|/)", file) for file in self.files)
+                        there = any(os.path.exists(f"{runs.TOP}/{at}/{path}") for at in (".", os.path.dirname(page))) or any(re.search(f"(^|/){shape}($|/)", file) for file in self.files)
                         self.assertTrue(there or glob.glob(f"{runs.TOP}/{path}") or "NAME" in path)
 
     def test_what_is_quoted_is_as_in_the_sources(self):
