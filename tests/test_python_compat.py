@@ -1,6 +1,7 @@
 """`jatshegi.compat`: programs that were written for python-chess, its documentation's examples, and what is refused."""
 import copy
 import importlib
+import io
 import os
 import pickle
 import shutil
@@ -145,6 +146,10 @@ class Boards(unittest.TestCase):
         board.turn = chess.BLACK
         board.castling_rights = chess.BB_A1 | chess.BB_H8
         self.assertEqual((board.fen(), board.has_kingside_castling_rights(chess.WHITE)), ("rnbqkbnr/pppppppp/8/8/8/8/PPPPPPPP/RNBQKBNR b Qk - 0 1", False))
+        for name in ("halfmove_clock", "fullmove_number"):
+            for board in (chess.Board(), chess.Board.empty()):
+                for value, error in ((-1, ValueError), (1.5, TypeError), (1 << 20, ValueError)):
+                    self.assertRaises(error, setattr, board, name, value)
         moved = played("Nf3")
         with self.assertRaisesRegex(ValueError, "clear_stack"):
             moved.turn = chess.WHITE
@@ -273,6 +278,160 @@ class Boards(unittest.TestCase):
         self.assertRaises(chess.IllegalMoveError, board.push, chess.Move.from_uci("e2e5"))
         self.assertRaises(IndexError, board.pop)
         self.assertEqual(board, chess.Board())
+
+
+GAMES = """[Event "a"]
+[White "Anna \\"A\\""]
+
+1. e4 {[%clk 0:05:00] best} e5 (1... c5 $5 2. Nf3) 2. Nf3 $1 1-0
+
+[Event "b"]
+
+1. d4 d5 2. Ke3 Nf6 *
+
+[Event "c"]
+[FEN "4k3/8/8/8/8/8/4P3/4K3 b - - 0 20"]
+[SetUp "1"]
+
+20... Kd7 21. e4 1/2-1/2
+"""
+
+
+class Games(unittest.TestCase):
+    def test_reading(self):
+        file = io.StringIO(GAMES)
+        games = [chess.pgn.read_game(file) for _ in range(4)]
+        self.assertEqual([None if game is None else game.headers["Event"] for game in games], ["a", "b", "c", None])
+        first, bad, third, _ = games
+        self.assertEqual((first.headers["White"], first.headers["Result"], list(first.headers)[:7]), ('Anna "A"', "1-0", chess.pgn.TAG_ROSTER))
+        self.assertEqual([move.uci() for move in first.mainline_moves()], ["e2e4", "e7e5", "g1f3"])
+        self.assertEqual(str(first.mainline_moves()), "1. e4 { [%clk 0:05:00] best } 1... e5 2. Nf3 $1")
+        self.assertEqual((first.end().nags, first.end().san(), first.end().uci(), first.end().ply(), first.end().turn()), ({chess.pgn.NAG_GOOD_MOVE}, "Nf3", "g1f3", 3, chess.BLACK))
+        self.assertEqual((first.errors, len(bad.errors), [move.uci() for move in bad.mainline_moves()]), ([], 1, ["d2d4", "d7d5"]))
+        self.assertIsInstance(bad.errors[0], ValueError)
+        self.assertEqual((third.board().fen(), third.ply(), third.end().board().fen()), ("4k3/8/8/8/8/8/4P3/4K3 b - - 0 20", 39, "8/3k4/8/8/4P3/8/8/4K3 b - - 0 21"))
+        for node in first.mainline():
+            self.assertIs(node.parent[node.move], node)
+        self.assertTrue(first.next() in first and first.end().is_end() and first.end().is_mainline())
+
+    def test_an_index_of_a_file(self):
+        file, offsets = io.StringIO(GAMES), {}
+        while True:
+            offset = file.tell()
+            headers = chess.pgn.read_headers(file)
+            if headers is None:
+                break
+            offsets[headers["Event"]] = offset
+        file.seek(offsets["c"])
+        self.assertEqual(chess.pgn.read_game(file).next().san(), "Kd7")
+        file.seek(offsets["a"])
+        self.assertEqual([chess.pgn.skip_game(file), chess.pgn.read_game(file).headers["Event"], chess.pgn.skip_game(file), chess.pgn.skip_game(file)], [True, "b", True, False])
+
+    def test_a_main_line_is_gone_through_again(self):
+        moves = chess.pgn.read_game(io.StringIO(GAMES)).mainline_moves()
+        self.assertEqual((len(list(moves)), len(list(moves)), [move.uci() for move in reversed(moves)][0]), (3, 3, "g1f3"))
+        self.assertEqual((bool(moves), bool(chess.pgn.Game().mainline())), (True, False))
+
+    def test_visitors(self):
+        seen = []
+
+        class Count(chess.pgn.BaseVisitor):
+            def begin_headers(self):
+                seen.append("headers")
+
+            def visit_move(self, board, move):
+                seen.append(board.san(move))
+
+            def begin_variation(self):
+                return chess.pgn.SKIP
+
+            def visit_result(self, result):
+                seen.append(result)
+
+            def result(self):
+                return len(seen)
+
+        self.assertEqual(chess.pgn.read_game(io.StringIO(GAMES), Visitor=Count), 5)
+        self.assertEqual(seen, ["headers", "e4", "e5", "Nf3", "1-0"])
+        del seen[:]
+        self.assertEqual(chess.pgn.read_game(io.StringIO(GAMES)).accept(Count()), 5)
+        with self.assertRaisesRegex(ValueError, "left out"):
+            chess.pgn.read_game("1. e5 *", Visitor=Count)
+        self.assertEqual(chess.pgn.read_game("1. e4 (1. d4) e5 *", Visitor=chess.pgn.BoardBuilder).fen(), played("e4 e5").fen())
+        kinds = [chess.pgn.read_game(GAMES, Visitor=kind) for kind in (chess.pgn.GameBuilder, chess.pgn.StringExporter, chess.pgn.HeadersBuilder)]
+        self.assertEqual((str(kinds[0]), kinds[0].headers), (kinds[1], kinds[2]))
+
+    def test_trees(self):
+        game = chess.pgn.Game()
+        game.headers["Event"] = "Example"
+        node = game.add_variation(chess.Move.from_uci("e2e4"))
+        node = node.add_variation(chess.Move.from_uci("e7e5"), comment="open")
+        sicilian = node.parent.add_variation(chess.Move.from_uci("c7c5"), starting_comment="or", nags=[chess.pgn.NAG_SPECULATIVE_MOVE])
+        french = game.next().add_main_variation(chess.Move.from_uci("e7e6"))
+        self.assertEqual([it.uci() for it in game.next().variations], ["e7e6", "e7e5", "c7c5"])
+        game.next().promote(sicilian)
+        game.next().demote(french)
+        game.next().remove_variation(french.move)
+        game.next().promote_to_main(node)
+        sicilian.add_line([chess.Move.from_uci("g1f3"), chess.Move.from_uci("d7d6")], comment="end")
+        text = "1. e4 e5 { open } ( { or } 1... c5 $5 2. Nf3 d6 { end } ) *"
+        self.assertEqual(str(game).splitlines()[-1], text)
+        self.assertEqual((sicilian.starts_variation(), sicilian.is_mainline(), sicilian.end().root() is game, game.variations[0].has_variation(french.move)), (True, False, True, False))
+        again = chess.pgn.read_game(str(game))
+        self.assertEqual([node.move for node in again.next().variations], [node.move, sicilian.move])
+        board = played("e4 e5")
+        self.assertEqual(chess.pgn.Game.from_board(board).end().board(), board)
+        game.add_variation(chess.Move.from_uci("e2e5"))
+        self.assertRaises(chess.IllegalMoveError, str, game)
+        self.assertRaises(KeyError, game.remove_variation, chess.Move.from_uci("a2a3"))
+
+    def test_clocks_evaluations_and_arrows(self):
+        node = chess.pgn.Game().add_variation(chess.Move.from_uci("e2e4"), comment="so [%clk 1:02:03.5] [%emt 0:00:05] [%eval 0.25,12] [%csl Ra1] [%cal Gb2b4,Yc1c2] it is")
+        self.assertEqual((node.clock(), node.emt(), node.eval_depth()), (3723.5, 5.0, 12))
+        self.assertEqual((node.eval().white().score(), node.eval().turn), (25, chess.BLACK))
+        self.assertEqual([arrow.pgn() for arrow in node.arrows()], ["Ra1", "Gb2b4", "Yc1c2"])
+        node.set_arrows([])
+        node.set_clock(59.9999)
+        node.set_emt(None)
+        node.set_eval(None)
+        self.assertEqual(node.comment, "so [%clk 0:01:00] it is")
+        node.set_clock(None)
+        node.set_eval(node.eval())
+        self.assertEqual((node.comment, node.clock(), node.eval(), node.arrows()), ("so it is", None, None, []))
+        node.comment = ""
+        node.set_arrows([(chess.A1, chess.A1), chess.svg.Arrow(chess.A1, chess.B2, color="red")])
+        node.set_clock(7200)
+        self.assertEqual(node.comment, "[%csl Ga1][%cal Ra1b2] [%clk 2:00:00]")
+        node.comment = "[%eval #-3]"
+        self.assertEqual((node.eval().black().mate(), str(node.eval().white())), (3, "#-3"))
+        node.set_eval(node.eval(), 20)
+        self.assertEqual(node.comment, "[%eval #-3,20]")
+
+    def test_exporters(self):
+        game = chess.pgn.read_game(GAMES)
+        without = game.accept(chess.pgn.StringExporter(headers=False, variations=False, comments=False))
+        self.assertEqual(without, "1. e4 e5 2. Nf3 1-0")
+        narrow = game.accept(chess.pgn.StringExporter(headers=False, columns=20)).splitlines()
+        self.assertEqual(narrow, ["1. e4", "{ [%clk 0:05:00] best }", "1... e5 ( 1... c5", "$5 2. Nf3 ) 2. Nf3", "$1 1-0"])
+        file = io.StringIO()
+        written = [game.accept(chess.pgn.FileExporter(file)) for game in (game, chess.pgn.Game())]
+        self.assertEqual(sum(written), len(file.getvalue()))
+        file.seek(0)
+        self.assertEqual(str(chess.pgn.read_game(file)), str(game))
+        self.assertEqual(str(chess.pgn.read_game(file)), str(chess.pgn.Game()))
+        game.comment = "a } b"
+        with self.assertRaisesRegex(ValueError, "right brace"):
+            str(game)
+
+    def test_tags(self):
+        headers = chess.pgn.Headers(White="x", ECO="B20")
+        self.assertEqual((headers["White"], headers["Date"], list(headers)[-2:], len(headers)), ("x", "????.??.??", ["Result", "ECO"], 8))
+        self.assertEqual(len(chess.pgn.Game.without_tag_roster().headers), 0)
+        for name, value in (("a b", "x"), ("", "x"), ("a", "x\ny")):
+            with self.assertRaises(ValueError):
+                headers[name] = value
+        headers["Variant"] = "Atomic"
+        self.assertRaises(NotImplementedError, headers.board)
 
 
 class Pages(unittest.TestCase):

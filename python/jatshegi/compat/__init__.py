@@ -15,7 +15,7 @@ from .._errors import AmbiguousMoveError, IllegalMoveError, InvalidMoveError
 from .._moves import parse_square, square, square_file, square_name, square_rank
 from .._squares import *
 from .._status import Outcome, Termination
-from . import _names, svg
+from . import _names, pgn, svg
 from ._boards import Board, LegalMoveGenerator
 from ._men import BaseBoard
 from ._names import *
@@ -30,6 +30,7 @@ __all__ = [
     "Outcome",
     "Termination",
     "parse_square",
+    "pgn",
     "square",
     "square_file",
     "square_name",

@@ -1,12 +1,11 @@
 """The board of python-chess over the library's."""
 from __future__ import annotations
 
-from typing import Any, Callable, Collection, Dict, Iterable, Iterator, List, Mapping, NamedTuple, Optional, Tuple, Type, TypeVar, Union
+from typing import Any, Callable, Dict, Iterable, Iterator, List, NamedTuple, Optional, Tuple, Type, TypeVar, Union
 
 from .. import _board
 from .. import _library as c
-from .. import svg as _svg
-from .._checks import colour_of, one_of, square_of
+from .._checks import colour_of, square_of, whole
 from .._errors import IllegalMoveError, InvalidFenError
 from .._status import Outcome, Termination
 from . import _epd
@@ -140,7 +139,7 @@ class Board(BaseBoard):
 
     @classmethod
     def _of(cls: Type[_Of], board: _board.Board) -> _Of:
-        found = cls()
+        found = cls.__new__(cls)
         found._take(board)
         return found
 
@@ -259,7 +258,7 @@ class Board(BaseBoard):
 
     @halfmove_clock.setter
     def halfmove_clock(self, number: int) -> None:
-        self._edit(clock=number)
+        self._edit(clock=whole(number, "a clock is a number of 0 to 99999", 0, 99999))
 
     @property
     def fullmove_number(self) -> int:
@@ -268,7 +267,7 @@ class Board(BaseBoard):
 
     @fullmove_number.setter
     def fullmove_number(self, number: int) -> None:
-        self._edit(number=number)
+        self._edit(number=whole(number, "a move has a number of 1 to 99999", 1, 99999))
 
     def ply(self) -> int:
         """How many plies there were since the beginning of move 1."""
