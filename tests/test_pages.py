@@ -3,6 +3,7 @@ import glob
 import os
 import re
 import subprocess
+import tempfile
 import unittest
 
 import runs
@@ -124,6 +125,24 @@ class Pages(unittest.TestCase):
         first = re.findall(r"^\| `([^` ]+)` \|", text_of("tools/README.md"), flags=re.M)
         files = [name for name in os.listdir(f"{runs.TOP}/tools") if os.path.isfile(f"{runs.TOP}/tools/{name}")]
         self.assertEqual(sorted(first), sorted(set(files) - {"README.md"}))
+
+    def test_no_page_gets_harder_to_read(self):
+        """The share of the sentences that tools/prose marks is at most that of tests/prose.txt, in percent, which lists every page."""
+        ran = subprocess.run([f"{runs.TOP}/tools/prose", "--counts", *PAGES], cwd=runs.TOP, capture_output=True, text=True, check=True)
+        shares = {path: 100 * int(marked) / int(count) for count, marked, path in re.findall(r"^ *(\d+) +\d+ +\S+ +(\d+) +\S+  (\S+\.md)$", ran.stdout, flags=re.M)}
+        self.assertEqual(shares.keys(), set(PAGES))
+        most = dict(row.rsplit(maxsplit=1) for row in text_of("tests/prose.txt").splitlines() if not row.startswith("#"))
+        self.assertEqual(sorted(most), sorted(PAGES))
+        for page, share in shares.items():
+            with self.subTest(page=page):
+                self.assertLessEqual(share, int(most[page]), f"read tools/prose {page}")
+
+    def test_a_hard_sentence_is_marked_and_a_plain_one_is_not(self):
+        with tempfile.NamedTemporaryFile("w", suffix=".md", encoding="utf-8") as page:
+            page.write("If no other piece can go there, the text names no square.\n\nWhere there is none, nothing is added to what was read.\n")
+            page.flush()
+            ran = subprocess.run([f"{runs.TOP}/tools/prose", page.name], capture_output=True, text=True)
+        self.assertEqual((ran.returncode, re.findall(r"(?m)^\S+?:(\d+): (where-if),", ran.stdout)), (1, [("3", "where-if")]), ran.stdout)
 
     def test_no_file_is_a_link(self):
         """`rt ci` proves nothing in a repository that has one."""
