@@ -171,11 +171,12 @@ class Pages(unittest.TestCase):
         self.assertGreater(int(re.search(r"(\d+) quotations", ran.stdout)[1]), 20)
 
     def test_the_tour_prints_a_refusal_of_the_sources_as_they_are(self):
-        """Its place is that of an answer which the page quotes, and it is about the function that the page quotes and that its command names."""
+        """Its place is the beginning of an answer which the page quotes, and it is about the function that the page quotes and that its command names."""
         tour = text_of("docs/TOUR.md")
         crate, function = re.search(r"^    tools/check (\w+) --only (\S+)$", tour, flags=re.M).groups()
         path, line, column, goal = re.search(r"^    \./(proofs/\S+?):(\d+):(\d+): error: `(.*?)`", tour, flags=re.M).groups()
-        answer = text_of(f"crates/{crate}/{path}").splitlines()[int(line) - 1]
+        head, answer = text_of(f"crates/{crate}/{path}").splitlines()[int(line) - 2 : int(line)]
+        self.assertEqual(head, f"{goal} c =")
         self.assertEqual(len(answer) - len(answer.lstrip()) + 1, int(column))
         self.assertIn(f"<!-- from crates/{crate}/{path}: {goal} -->\n", tour)
         self.assertIn(f"\n{answer}\n", tour)
