@@ -1,10 +1,13 @@
 """`jatshegi.compat`: programs that were written for python-chess, its documentation's examples, and what is refused."""
+import asyncio
 import copy
 import importlib
 import io
 import os
 import pickle
+import re
 import shutil
+import struct
 import subprocess
 import sys
 import tempfile
@@ -14,6 +17,7 @@ import unittest
 import runs
 
 PACKAGE = f"{runs.TOP}/python"
+ENGINE = f"{runs.TOP}/release/x86_64-linux/bin/jatshegi"
 
 
 def setUpModule():
@@ -434,10 +438,84 @@ class Games(unittest.TestCase):
         self.assertRaises(NotImplementedError, headers.board)
 
 
+class Engines(unittest.TestCase):
+    MATE = "7k/8/6K1/8/8/8/8/R7 w - - 0 1"
+
+    def test_play_and_analyse(self):
+        with chess.engine.SimpleEngine.popen_uci(ENGINE) as engine:
+            board = chess.Board()
+            while not board.is_game_over() and board.fullmove_number < 4:
+                result = engine.play(board, chess.engine.Limit(depth=1), game=board, ponder=False, info=chess.engine.INFO_ALL)
+                self.assertIsInstance(result.move, chess.Move)
+                board.push(result.move)
+            self.assertEqual((len(board.move_stack), result.draw_offered, result.resigned), (6, False, False))
+            info = engine.analyse(chess.Board(self.MATE), chess.engine.Limit(depth=2))
+            self.assertEqual((info["pv"], info["score"].white().mate(), type(info["pv"][0])), ([chess.Move.from_uci("a1a8")], 1, chess.Move))
+            self.assertRaises(ValueError, engine.play, chess.Board.empty(), chess.engine.Limit(depth=1))
+        self.assertRaises(NotImplementedError, chess.engine.SimpleEngine.popen_xboard, ENGINE)
+
+    def test_an_analysis_that_runs(self):
+        with chess.engine.SimpleEngine.popen_uci(ENGINE) as engine:
+            depths = []
+            with engine.analysis(chess.Board()) as analysis:
+                for info in analysis:
+                    depths += [info["depth"]] if "depth" in info else []
+                    if len(depths) == 2:
+                        break
+            self.assertEqual((depths, analysis.info["depth"], analysis.multipv[0] is analysis.info), ([1, 2], 2, True))
+            # Another call ends what goes on.
+            self.assertEqual(engine.play(chess.Board(self.MATE), chess.engine.Limit(depth=2)).move.uci(), "a1a8")
+            self.assertRaises(chess.engine.AnalysisComplete, analysis.get)
+            self.assertRaises(chess.engine.AnalysisComplete, analysis.wait)
+            with engine.analysis(chess.Board(self.MATE), chess.engine.Limit(depth=2)) as analysis:
+                self.assertEqual(analysis.wait().move, chess.Move.from_uci("a1a8"))
+            running = engine.analysis(chess.Board())
+            running.stop()
+            self.assertIn(running.wait().move, chess.Board().legal_moves)
+
+    def test_asyncio(self):
+        async def main():
+            transport, engine = await chess.engine.popen_uci(ENGINE)
+            board = chess.Board(self.MATE)
+            result = await engine.play(board, chess.engine.Limit(depth=2))
+            info = await engine.analyse(board, chess.engine.Limit(depth=2))
+            found = []
+            with await engine.analysis(chess.Board()) as analysis:
+                async for info_now in analysis:
+                    found.append(info_now)
+                    if "pv" in info_now:
+                        break
+            await engine.ping()
+            await engine.quit()
+            return result.move.uci(), info["score"].white().mate(), bool(found), transport.get_returncode()
+
+        self.assertEqual(asyncio.run(main()), ("a1a8", 1, True, 0))
+
+
+class Books(unittest.TestCase):
+    def test_entries(self):
+        board = chess.Board()
+        key = chess.polyglot.zobrist_hash(board)
+        self.assertEqual(key, 0x463B96181691FC9C)
+        with tempfile.NamedTemporaryFile(suffix=".bin") as file:
+            for origin, target, weight in ((12, 28, 3), (12, 36, 9), (6, 21, 5)):
+                file.write(struct.pack(">QHHI", key, origin << 6 | target, weight, 7))
+            file.flush()
+            with chess.polyglot.open_reader(file.name) as reader:
+                entries = list(reader.find_all(board))
+                self.assertEqual(entries, [(key, 12 << 6 | 28, 3, 7, chess.Move.from_uci("e2e4")), (key, 6 << 6 | 21, 5, 7, chess.Move.from_uci("g1f3"))])
+                self.assertEqual((len(reader), reader.find(board).move.uci(), entries[0].raw_move), (3, "g1f3", 796))
+                without = [chess.Move.from_uci("g1f3")]
+                self.assertEqual({reader.weighted_choice(board, exclude_moves=without).move.uci(), reader.choice(board, exclude_moves=without).move.uci()}, {"e2e4"})
+                self.assertIsNone(reader.get(played("e4")))
+                self.assertRaises(IndexError, reader.find, played("e4"))
+
+
 class Pages(unittest.TestCase):
     def test_the_page_says_how_many_names_there_are(self):
         with open(f"{runs.TOP}/docs/PYTHON.md", encoding="utf-8") as page:
-            self.assertIn(f"`jatshegi.compat` has {len(set(chess.__all__))} names of python-chess", page.read())
+            said = re.search(r"`jatshegi.compat` has (\d+) names of python-chess", page.read())
+        self.assertEqual(int(said[1]), len(set(chess.__all__)))
         self.assertEqual([name for name in chess.__all__ if not hasattr(chess, name)], [])
 
 
@@ -447,10 +525,17 @@ class Types(unittest.TestCase):
             self.skipTest("mypy is not on the path")
         uses = """
             import jatshegi.compat as chess
+            import jatshegi.compat.engine
             board = chess.Board()
             names: list[str] = [board.san(move) for move in board.legal_moves]
             squares: chess.SquareSet = board.attackers(chess.WHITE, chess.E4) | chess.BB_E4
             outcome = board.outcome(claim_draw=True)
+            game = chess.pgn.read_game(open("x"))
+            headers = chess.pgn.read_game(open("x"), Visitor=chess.pgn.HeadersBuilder)
+            if game is not None and headers is not None:
+                print([node.san() for node in game.mainline()], headers["White"], game.end().eval())
+            with chess.engine.SimpleEngine.popen_uci("x") as engine:
+                print(engine.play(board, chess.engine.Limit(time=1)).move, engine.analyse(board, chess.engine.Limit(depth=2))["score"].white())
             print(names, squares, None if outcome is None else outcome.termination.name, board.copy(stack=False).status())
             board.push("e4")
         """
@@ -460,7 +545,7 @@ class Types(unittest.TestCase):
             words = ["mypy", "--strict", "--cache-dir", f"{folder}/cache", f"{folder}/uses.py"]
             ran = subprocess.run(words, env={**os.environ, "MYPYPATH": PACKAGE}, capture_output=True, text=True)
         # The last line is the one that the call refuses, too.
-        self.assertEqual([line.split(":")[1] for line in ran.stdout.splitlines() if ": error" in line], ["8"], ran.stdout)
+        self.assertEqual([line.split(":")[1] for line in ran.stdout.splitlines() if ": error" in line], ["15"], ran.stdout)
 
 
 if __name__ == "__main__":

@@ -10,15 +10,28 @@
 The names, the words of calls and the answers are those of python-chess 1.11; docs/PYTHON.md lists what differs and what is refused. The proved library answers
 each question of chess.
 """
+import importlib
+from typing import TYPE_CHECKING, Any
+
 from .. import _squares
 from .._errors import AmbiguousMoveError, IllegalMoveError, InvalidMoveError
 from .._moves import parse_square, square, square_file, square_name, square_rank
 from .._squares import *
 from .._status import Outcome, Termination
-from . import _names, pgn, svg
+from . import _names, pgn, polyglot, svg
 from ._boards import Board, LegalMoveGenerator
 from ._men import BaseBoard
 from ._names import *
+
+if TYPE_CHECKING:
+    from . import engine as engine
+
+
+# (asyncio, which the module of engines needs, takes longer to load than all else)
+def __getattr__(name: str) -> Any:
+    if name == "engine":
+        return importlib.import_module(".engine", __name__)
+    raise AttributeError(f"module {__name__!r} has no attribute {name!r}")
 
 __all__ = [
     "AmbiguousMoveError",
@@ -31,6 +44,7 @@ __all__ = [
     "Termination",
     "parse_square",
     "pgn",
+    "polyglot",
     "square",
     "square_file",
     "square_name",

@@ -1,0 +1,394 @@
+"""Engines that speak UCI, by the names of python-chess's module `engine`. The board says of each move that an engine answers whether it is legal."""
+from __future__ import annotations
+
+import asyncio
+import os
+from functools import partial
+from typing import Any, Dict, Iterable, Iterator, List, Mapping, NamedTuple, Optional, Sequence, Tuple, Type, Union, overload
+
+from .. import engine as _engine
+from .._scores import parts_of
+from ..engine import (
+    INFO_ALL,
+    INFO_BASIC,
+    INFO_CURRLINE,
+    INFO_NONE,
+    INFO_PV,
+    INFO_REFUTATION,
+    INFO_SCORE,
+    Cp,
+    EngineError,
+    EngineTerminatedError,
+    Info,
+    InfoDict,
+    Limit,
+    Mate,
+    MateGiven,
+    Option,
+    PovScore,
+    Score,
+)
+from ._boards import Board
+from ._names import OURS, Move
+
+__all__ = [
+    "INFO_ALL",
+    "INFO_BASIC",
+    "INFO_CURRLINE",
+    "INFO_NONE",
+    "INFO_PV",
+    "INFO_REFUTATION",
+    "INFO_SCORE",
+    "AnalysisComplete",
+    "AnalysisResult",
+    "BestMove",
+    "Cp",
+    "EngineError",
+    "EngineTerminatedError",
+    "Info",
+    "InfoDict",
+    "Limit",
+    "Mate",
+    "MateGiven",
+    "Option",
+    "PlayResult",
+    "PovScore",
+    "Score",
+    "SimpleAnalysisResult",
+    "SimpleEngine",
+    "UciProtocol",
+    "popen_uci",
+]
+
+_Command = Union[str, List[str], Sequence[str]]
+_Options = Mapping[str, Union[str, int, bool, None]]
+
+
+class AnalysisComplete(Exception):
+    """The analysis has ended, and has nothing more to say."""
+
+
+class PlayResult(NamedTuple):
+    """The move that an engine plays, the answer that it awaits, and its information."""
+
+    move: Optional[Move]
+    ponder: Optional[Move]
+    info: InfoDict
+    draw_offered: bool = False
+    resigned: bool = False
+
+
+class BestMove(NamedTuple):
+    """The best move of an analysis, and the answer that is awaited."""
+
+    move: Optional[Move]
+    ponder: Optional[Move]
+
+
+def _ours(info: InfoDict) -> InfoDict:
+    """The information with moves of this module."""
+    if "pv" in info:
+        info["pv"] = [OURS[move] for move in info["pv"]]
+    return info
+
+
+class SimpleAnalysisResult:
+    """What an engine says of a position while it searches. Use it with `with`, or call `stop`."""
+
+    def __init__(self, engine: SimpleEngine, board: Board, lines: Iterator[List[str]]) -> None:
+        self._engine, self._board, self._lines = engine, board, lines
+        self._best: Optional[BestMove] = None
+        #: What was said last, of each line.
+        self.multipv: List[InfoDict] = [{}]
+
+    @property
+    def info(self) -> InfoDict:
+        """What was said last of the first line."""
+        return self.multipv[0]
+
+    def next(self) -> Optional[InfoDict]:
+        """What the engine says next; None if the search has ended."""
+        with self._engine._lock:
+            while self._engine._running is self:
+                words = next(self._lines)
+                if words[0] == "bestmove":
+                    self._ended(words)
+                elif words[0] == "info":
+                    return self._said(parts_of(words[1:]))
+            return None
+
+    def _said(self, parts: Dict[str, List[str]]) -> InfoDict:
+        info = _ours(self._engine._info(self._board._game, parts))
+        place = info.get("multipv", 1) - 1
+        while len(self.multipv) <= place:
+            self.multipv.append({})
+        self.multipv[place].update(info)
+        return info
+
+    def _ended(self, words: List[str]) -> None:
+        self._engine._running, self._engine._is_owed = None, False
+        board = self._board._game.copy()
+        move = self._engine._move(board, words[1] if len(words) > 1 else "")
+        awaited = None
+        if move is not None and words[2:3] == ["ponder"] and len(words) > 3:
+            board.push(move)
+            awaited = self._engine._move(board, words[3])
+        self._best = BestMove(None if move is None else OURS[move], None if awaited is None else OURS[awaited])
+
+    def get(self) -> InfoDict:
+        """What the engine says next. Raises `AnalysisComplete` if the search has ended."""
+        info = self.next()
+        if info is None:
+            raise AnalysisComplete()
+        return info
+
+    def __iter__(self) -> Iterator[InfoDict]:
+        return self
+
+    def __next__(self) -> InfoDict:
+        info = self.next()
+        if info is None:
+            raise StopIteration
+        return info
+
+    def stop(self) -> None:
+        """Has the engine end the search; what it still says comes by `next`."""
+        if self._engine._running is self:
+            self._engine._interrupt()
+
+    def wait(self) -> BestMove:
+        """Waits until the search has ended. Raises `AnalysisComplete` if another call has ended it."""
+        for _ in self:
+            pass
+        if self._best is None:
+            raise AnalysisComplete("another call has ended the analysis")
+        return self._best
+
+    def __enter__(self) -> SimpleAnalysisResult:
+        return self
+
+    def __exit__(self, kind: Optional[Type[BaseException]], error: Optional[BaseException], trace: object) -> None:
+        self.stop()
+
+
+class SimpleEngine(_engine.SimpleEngine):
+    """An engine that runs as a program of its own."""
+
+    # The analysis that goes on.
+    _running: Optional[SimpleAnalysisResult] = None
+
+    @classmethod
+    def popen_uci(cls, command: _Command, *, timeout: Optional[float] = 10.0, debug: Optional[bool] = None, setpgrp: bool = False, **popen_args: Any) -> SimpleEngine:
+        """Starts an engine that speaks UCI."""
+        return cls(command, timeout=timeout, **({"start_new_session": True} if setpgrp else {}), **popen_args)
+
+    @classmethod
+    def popen_xboard(cls, command: _Command, **words: Any) -> SimpleEngine:
+        """Raises `NotImplementedError`."""
+        raise NotImplementedError("engines speak UCI here, not XBoard's protocol")
+
+    def __enter__(self) -> SimpleEngine:
+        return self
+
+    # Has a search end, also while another thread waits for its next line, and has the lock.
+    def _interrupt(self) -> None:
+        try:
+            os.write(self._stdin, b"stop\n")
+        except BlockingIOError:
+            raise EngineError("the engine reads nothing") from None
+        except OSError:
+            raise self._gone() from None
+
+    # Ends an analysis that goes on, so that the next call has the engine.
+    def _settle(self) -> None:
+        if self._running is not None:
+            self._running = None
+            self._send("stop")
+        super()._settle()
+
+    def play(  # type: ignore[override]
+        self,
+        board: Board,
+        limit: Limit,
+        *,
+        game: object = None,
+        info: Info = INFO_NONE,
+        ponder: bool = False,
+        draw_offered: bool = False,
+        root_moves: Optional[Iterable[Move]] = None,
+        options: _Options = {},
+        opponent: object = None,
+    ) -> PlayResult:
+        """The move that the engine plays. Raises `EngineError` for a move that isn't legal."""
+        found = super().play(board._game, limit, game=game, info=info, ponder=ponder, root_moves=root_moves, options=options)
+        move, awaited = (None if it is None else OURS[it] for it in (found.move, found.ponder))
+        return PlayResult(move, awaited, _ours(found.info))
+
+    @overload  # type: ignore[override]
+    def analyse(
+        self, board: Board, limit: Limit, *, multipv: None = None, game: object = None, info: Info = INFO_ALL, root_moves: Optional[Iterable[Move]] = None, options: _Options = {}
+    ) -> InfoDict: ...
+    @overload
+    def analyse(
+        self, board: Board, limit: Limit, *, multipv: int, game: object = None, info: Info = INFO_ALL, root_moves: Optional[Iterable[Move]] = None, options: _Options = {}
+    ) -> List[InfoDict]: ...
+    def analyse(
+        self,
+        board: Board,
+        limit: Limit,
+        *,
+        multipv: Optional[int] = None,
+        game: object = None,
+        info: Info = INFO_ALL,
+        root_moves: Optional[Iterable[Move]] = None,
+        options: _Options = {},
+    ) -> Union[InfoDict, List[InfoDict]]:
+        """What the engine says of the position, with `multipv` of that number of lines."""
+        found = super().analyse(board._game, limit, multipv=1 if multipv is None else multipv, game=game, info=info, root_moves=root_moves, options=options)
+        infos = [_ours(it) for it in found]
+        return infos[0] if multipv is None else infos
+
+    def analysis(
+        self,
+        board: Board,
+        limit: Optional[Limit] = None,
+        *,
+        multipv: Optional[int] = None,
+        game: object = None,
+        info: Info = INFO_ALL,
+        root_moves: Optional[Iterable[Move]] = None,
+        options: _Options = {},
+    ) -> SimpleAnalysisResult:
+        """What the engine says of the position while it searches; without a limit until it is stopped. Another call of the engine ends it."""
+        with self._lock:
+            self._begin_game(game)
+            self.configure(options)
+            goes = ["go", *(["infinite"] if limit is None else limit.words()), *_engine._root(board._game, root_moves)]
+            if "MultiPV" in self.options:
+                self._set("MultiPV", str(multipv or 1))
+            elif (multipv or 1) > 1:
+                raise EngineError("the engine has no option MultiPV, so it says one line alone")
+            self._send(_engine._position(board._game))
+            self._is_owed = True
+            self._send(" ".join(goes))
+            self._running = SimpleAnalysisResult(self, board.copy(), iter(self._until("bestmove", None)))
+            return self._running
+
+
+class AnalysisResult:
+    """An analysis for `async for`. Use it with `with`, or call `stop`."""
+
+    def __init__(self, found: SimpleAnalysisResult) -> None:
+        self._found = found
+
+    @property
+    def multipv(self) -> List[InfoDict]:
+        """What was said last, of each line."""
+        return self._found.multipv
+
+    @property
+    def info(self) -> InfoDict:
+        """What was said last of the first line."""
+        return self._found.info
+
+    def stop(self) -> None:
+        """Has the engine end the search."""
+        self._found.stop()
+
+    async def wait(self) -> BestMove:
+        """Waits until the search has ended."""
+        return await asyncio.to_thread(self._found.wait)
+
+    async def next(self) -> Optional[InfoDict]:
+        """What the engine says next; None if the search has ended."""
+        return await asyncio.to_thread(self._found.next)
+
+    async def get(self) -> InfoDict:
+        """The same. Raises `AnalysisComplete` if the search has ended."""
+        return await asyncio.to_thread(self._found.get)
+
+    def __aiter__(self) -> AnalysisResult:
+        return self
+
+    async def __anext__(self) -> InfoDict:
+        info = await self.next()
+        if info is None:
+            raise StopAsyncIteration
+        return info
+
+    def __enter__(self) -> AnalysisResult:
+        return self
+
+    def __exit__(self, kind: Optional[Type[BaseException]], error: Optional[BaseException], trace: object) -> None:
+        self.stop()
+
+
+class UciProtocol:
+    """An engine for `await`. Each call runs in a thread; a call that is cancelled goes on there until the engine has answered."""
+
+    def __init__(self, engine: SimpleEngine) -> None:
+        self._engine = engine
+
+    @property
+    def id(self) -> Dict[str, str]:
+        """What the engine says of itself."""
+        return self._engine.id
+
+    @property
+    def options(self) -> Dict[str, Option]:
+        """The engine's options."""
+        return self._engine.options
+
+    async def play(self, board: Board, limit: Limit, **words: Any) -> PlayResult:
+        """The move that the engine plays, as `SimpleEngine.play`."""
+        return await asyncio.to_thread(partial(self._engine.play, board, limit, **words))
+
+    @overload
+    async def analyse(self, board: Board, limit: Limit, *, multipv: None = None, **words: Any) -> InfoDict: ...
+    @overload
+    async def analyse(self, board: Board, limit: Limit, *, multipv: int, **words: Any) -> List[InfoDict]: ...
+    async def analyse(self, board: Board, limit: Limit, *, multipv: Optional[int] = None, **words: Any) -> Union[InfoDict, List[InfoDict]]:
+        """What the engine says of the position, as `SimpleEngine.analyse`."""
+        infos: List[InfoDict] = await asyncio.to_thread(lambda: self._engine.analyse(board, limit, multipv=multipv or 1, **words))
+        return infos[0] if multipv is None else infos
+
+    async def analysis(self, board: Board, limit: Optional[Limit] = None, **words: Any) -> AnalysisResult:
+        """What the engine says while it searches, as `SimpleEngine.analysis`."""
+        return AnalysisResult(await asyncio.to_thread(partial(self._engine.analysis, board, limit, **words)))
+
+    async def configure(self, options: _Options) -> None:
+        """Sets options."""
+        await asyncio.to_thread(self._engine.configure, options)
+
+    async def ping(self) -> None:
+        """Waits until the engine has done what it was asked."""
+        await asyncio.to_thread(self._engine.ping)
+
+    async def quit(self) -> None:
+        """Has the engine end."""
+        await asyncio.to_thread(self._engine.quit)
+
+
+class Transport:
+    """The engine's program."""
+
+    def __init__(self, engine: SimpleEngine) -> None:
+        self._engine = engine
+
+    def get_pid(self) -> int:
+        """The number of the process."""
+        return self._engine._process.pid
+
+    def get_returncode(self) -> Optional[int]:
+        """How the process has ended; None if it runs."""
+        return self._engine._process.poll()
+
+    def close(self) -> None:
+        """Ends the program at once."""
+        self._engine.close()
+
+
+async def popen_uci(command: _Command, *, setpgrp: bool = False, **popen_args: Any) -> Tuple[Transport, UciProtocol]:
+    """Starts an engine that speaks UCI, for `await`."""
+    engine = await asyncio.to_thread(partial(SimpleEngine.popen_uci, command, setpgrp=setpgrp, **popen_args))
+    return Transport(engine), UciProtocol(engine)

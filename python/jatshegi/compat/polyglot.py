@@ -1,0 +1,97 @@
+"""Opening books, by the names of python-chess's module `polyglot`. The library finds a position's entries and their moves."""
+from __future__ import annotations
+
+import os
+import random as _random
+from ctypes import byref, c_size_t
+from typing import Container, Iterator, NamedTuple, Optional, Type, TypeVar, Union
+
+from .. import _library as c
+from .. import polyglot as _polyglot
+from ._boards import Board
+from ._names import OURS, Move
+
+__all__ = ["Entry", "MemoryMappedReader", "open_reader", "zobrist_hash"]
+
+_Of = TypeVar("_Of", bound="MemoryMappedReader")
+
+
+class Entry(NamedTuple):
+    """An entry of a book."""
+
+    key: int
+    raw_move: int
+    weight: int
+    learn: int
+    move: Move
+
+
+def zobrist_hash(board: Board) -> int:
+    """The position's key."""
+    return board._game.polyglot_key()
+
+
+def _raw(book: _polyglot.Reader, place: int) -> int:
+    """The number of an entry's move."""
+    high, low = (ord(book._bytes[16 * place + at]) for at in (8, 9))
+    return high << 8 | low
+
+
+class MemoryMappedReader:
+    """A book, which is mapped and not read whole."""
+
+    def __init__(self, filename: Union[str, "os.PathLike[str]"]) -> None:
+        self._book = _polyglot.Reader(filename)
+
+    def __enter__(self: _Of) -> _Of:
+        return self
+
+    def __exit__(self, kind: Optional[Type[BaseException]], error: Optional[BaseException], trace: object) -> None:
+        self.close()
+
+    def close(self) -> None:
+        """Gives the file back."""
+        self._book.close()
+
+    def __len__(self) -> int:
+        return len(self._book)
+
+    def find_all(self, board: Board, *, minimum_weight: int = 1, exclude_moves: Container[Move] = ()) -> Iterator[Entry]:
+        """The position's entries whose moves are legal, of at least that weight, without those of some moves."""
+        book, key, first, count = self._book, zobrist_hash(board), c_size_t(), c_size_t()
+        c.lib.jatshegi_book_find(book._bytes, book._size, key, byref(first), byref(count))
+        for place in range(first.value, first.value + count.value):
+            found = board._game._booked(book._bytes, book._size, place)
+            if found is not None and found[1] >= minimum_weight and found[0] not in exclude_moves:
+                move, weight, learn = found
+                yield Entry(key, _raw(book, place), weight, learn, OURS[move])
+
+    def get(self, board: Board, default: Optional[Entry] = None, *, minimum_weight: int = 1, exclude_moves: Container[Move] = ()) -> Optional[Entry]:
+        """The entry of the greatest weight, or the default."""
+        return max(self.find_all(board, minimum_weight=minimum_weight, exclude_moves=exclude_moves), key=lambda entry: entry.weight, default=default)
+
+    def find(self, board: Board, *, minimum_weight: int = 1, exclude_moves: Container[Move] = ()) -> Entry:
+        """The entry of the greatest weight. Raises `IndexError` if there is none."""
+        entry = self.get(board, minimum_weight=minimum_weight, exclude_moves=exclude_moves)
+        if entry is None:
+            raise IndexError("the book has no move for this position")
+        return entry
+
+    def choice(self, board: Board, *, minimum_weight: int = 1, exclude_moves: Container[Move] = (), random: Optional[_random.Random] = None) -> Entry:
+        """One of the entries, each as likely. Raises `IndexError` if there is none."""
+        entries = list(self.find_all(board, minimum_weight=minimum_weight, exclude_moves=exclude_moves))
+        if not entries:
+            raise IndexError("the book has no move for this position")
+        return (random or _random).choice(entries)
+
+    def weighted_choice(self, board: Board, *, exclude_moves: Container[Move] = (), random: Optional[_random.Random] = None) -> Entry:
+        """One of the entries, each as likely as its weight says. Raises `IndexError` if there is none."""
+        entries = list(self.find_all(board, exclude_moves=exclude_moves))
+        if not entries:
+            raise IndexError("the book has no move for this position")
+        return (random or _random).choices(entries, weights=[entry.weight for entry in entries])[0]
+
+
+def open_reader(path: Union[str, "os.PathLike[str]"]) -> MemoryMappedReader:
+    """The book in a file. Raises `OSError` if there is none."""
+    return MemoryMappedReader(path)
