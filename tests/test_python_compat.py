@@ -201,6 +201,10 @@ class Boards(unittest.TestCase):
         self.assertEqual(chess.Board("4k3/8/8/8/8/8/4r3/4K3 b - - 0 1").status(), chess.Status.OPPOSITE_CHECK)
         self.assertEqual(chess.Board("4k3/8/8/8/8/8/8/4K3 w KQ - 0 1").status(), chess.STATUS_BAD_CASTLING_RIGHTS)
         self.assertEqual(chess.Board("P3k3/8/8/8/8/8/8/4K3 w - - 0 1").status(), chess.STATUS_PAWNS_ON_BACKRANK)
+        kept = played("e4 e5")
+        for fen in ("x", "4k3/8/8/8/8/8/8/4K3 w - - a 1", "4k3/8/8/8/8/8/44/4K3 w KQ - 0 1"):
+            self.assertRaises(ValueError, kept.set_fen, fen)
+            self.assertEqual((kept, len(kept.move_stack)), (played("e4 e5"), 2))
         for fen in ("", "8/8", "8/8/8/8/8/8/8/7x w - - 0 1", "8/8/8/8/8/8/8/44 w - - 0 1", "8/8/8/8/8/8/8/8 x - - 0 1", "8/8/8/8/8/8/8/8 w - - a 1", "8/8/8/8/8/8/8/8/8 w - - 0 1"):
             with self.assertRaises(ValueError, msg=fen):
                 chess.Board(fen)
@@ -509,6 +513,141 @@ class Books(unittest.TestCase):
                 self.assertEqual({reader.weighted_choice(board, exclude_moves=without).move.uci(), reader.choice(board, exclude_moves=without).move.uci()}, {"e2e4"})
                 self.assertIsNone(reader.get(played("e4")))
                 self.assertRaises(IndexError, reader.find, played("e4"))
+
+
+# Programs as they are written for python-chess, and what they print.
+PROGRAMS = [
+    (
+        """
+        import chess
+        import random
+
+        def play(seed):
+            board, chance = chess.Board(), random.Random(seed)
+            while not board.is_game_over(claim_draw=True):
+                board.push(chance.choice(list(board.legal_moves)))
+            return board.outcome(claim_draw=True)
+
+        outcomes = [play(seed) for seed in range(3)]
+        print(all(it.termination in chess.Termination and it.result() in ("1-0", "0-1", "1/2-1/2") for it in outcomes))
+        """,
+        "True",
+    ),
+    (
+        """
+        import chess
+
+        VALUES = {chess.PAWN: 1, chess.KNIGHT: 3, chess.BISHOP: 3, chess.ROOK: 5, chess.QUEEN: 9, chess.KING: 0}
+
+        def evaluate(board):
+            if board.is_checkmate():
+                return -1000
+            return sum(VALUES[kind] * (len(board.pieces(kind, board.turn)) - len(board.pieces(kind, not board.turn))) for kind in chess.PIECE_TYPES)
+
+        def search(board, depth, alpha, beta):
+            if depth == 0 or board.is_game_over():
+                return evaluate(board), None
+            best = None
+            for move in sorted(board.legal_moves, key=lambda it: (not board.is_capture(it), it.uci())):
+                board.push(move)
+                value = -search(board, depth - 1, -beta, -alpha)[0]
+                board.pop()
+                if value > alpha:
+                    alpha, best = value, move
+                if alpha >= beta:
+                    break
+            return alpha, best
+
+        board = chess.Board("6k1/5ppp/8/8/8/8/5PPP/3R2K1 w - - 0 1")
+        value, move = search(board, 2, -9999, 9999)
+        print(value, board.san(move))
+        """,
+        "1000 Rd8#",
+    ),
+    (
+        """
+        import chess
+
+        board = chess.Board("r1bqkbnr/pppp1ppp/2n5/4p3/4P3/5N2/PPPP1PPP/RNBQKB1R w KQkq - 2 3")
+        for square in chess.scan_reversed(board.occupied_co[chess.BLACK]):
+            attackers, defenders = board.attackers(chess.WHITE, square), board.attackers(chess.BLACK, square)
+            if attackers:
+                print(chess.square_name(square), chess.piece_name(board.piece_type_at(square)), len(attackers), len(defenders))
+        """,
+        "e5 pawn 1 1",
+    ),
+    (
+        """
+        import chess
+
+        def planes(board):
+            rows = []
+            for color in chess.COLORS:
+                for kind in chess.PIECE_TYPES:
+                    rows.append([int(square in board.pieces(kind, color)) for square in chess.SQUARES])
+            rows.append([int(bool(board.castling_rights & chess.BB_SQUARES[square])) for square in chess.SQUARES])
+            return rows
+
+        print([sum(row) for row in planes(chess.Board())])
+        """,
+        "[8, 2, 2, 2, 1, 1, 8, 2, 2, 2, 1, 1, 4]",
+    ),
+    (
+        """
+        import chess
+        import chess.pgn
+        import collections
+        import io
+
+        tree = collections.Counter()
+        file = io.StringIO("1. e4 e5 2. Nf3 * 1. Nf3 e5 2. e4 * 1. d4 *")
+        while (game := chess.pgn.read_game(file)) is not None:
+            board = game.board()
+            for move in game.mainline_moves():
+                board.push(move)
+                tree[board.epd()] += 1
+        print(sorted(tree.values()))
+        """,
+        "[1, 1, 1, 1, 1, 2]",
+    ),
+    (
+        """
+        import chess
+
+        right = 0
+        for line in (
+            '2rr3k/pp3pp1/1nnqbN1p/3pN3/2pP4/2P3Q1/PPB4P/R4RK1 w - - bm Qg6; id "WAC.001";',
+            '8/7p/5k2/5p2/p1p2P2/Pr1pPK2/1P1R3P/8 b - - bm Rxb2; id "WAC.002";',
+        ):
+            board, operations = chess.Board.from_epd(line)
+            right += all(move in board.legal_moves for move in operations["bm"])
+            print(operations["id"], [board.san(move) for move in operations["bm"]])
+        print(right)
+        """,
+        "WAC.001 ['Qg6']\nWAC.002 ['Rxb2']\n2",
+    ),
+    (
+        """
+        import chess
+        import chess.svg
+
+        board = chess.Board("8/8/8/8/4N3/8/8/8 w - - 0 1")
+        picture = chess.svg.board(board, fill=dict.fromkeys([chess.E4], "#cc0000cc"), arrows=[chess.svg.Arrow(chess.E4, chess.F6, color="#0000cccc")], squares=chess.SquareSet(chess.BB_DARK_SQUARES & chess.BB_FILE_B), size=350)
+        print(picture.startswith("<svg"), picture.count("<line"))
+        """,
+        "True 1",
+    ),
+]
+
+
+class Programs(unittest.TestCase):
+    def test_programs_run_with_their_imports_changed(self):
+        for program, wanted in PROGRAMS:
+            text = re.sub(r"(?m)^import chess$", "import jatshegi.compat as chess", textwrap.dedent(program))
+            text = re.sub(r"(?m)^import chess\.", "import jatshegi.compat.", text)
+            with self.subTest(program=text):
+                ran = subprocess.run([sys.executable, "-c", text], env={**os.environ, "PYTHONPATH": PACKAGE}, capture_output=True, text=True)
+                self.assertEqual((ran.stdout.rstrip("\n"), ran.stderr), (wanted, ""))
 
 
 class Pages(unittest.TestCase):

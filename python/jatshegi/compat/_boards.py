@@ -179,6 +179,12 @@ class Board(BaseBoard):
             return self._set.men
         return {square: MEN[letter] for square, letter in enumerate(self._it._men()) if letter}
 
+    def piece_at(self, square: Square) -> Optional[Piece]:
+        """The piece on the square, or None."""
+        if self._refusal is not None:
+            return super().piece_at(square)
+        return MEN.get(self._it._men()[square_of(square)])
+
     def _place(self, men: Dict[Square, Piece]) -> None:
         self._begin(self._fields()._replace(men=men))
 
@@ -192,7 +198,22 @@ class Board(BaseBoard):
 
     def set_fen(self, fen: str) -> None:
         """Begins a new game from a FEN. Raises `ValueError`."""
-        self._begin(fields_of(fen))
+        if not self._is_plain(fen):
+            self._begin(fields_of(fen))
+
+    # Begins from a FEN that the library takes as it is, with its castling rights and its target. Nothing has changed if it isn't such a FEN.
+    def _is_plain(self, fen: str) -> bool:
+        fields = fen.split()
+        if len(fields) != 6:
+            return False
+        try:
+            board = _board.Board(fen)
+        except InvalidFenError:
+            return False
+        is_plain = board.fen().split()[2:4] == fields[2:4]
+        if is_plain:
+            self._take(board)
+        return is_plain
 
     def reset(self) -> None:
         """Begins a new game from the usual position."""
@@ -358,9 +379,11 @@ class Board(BaseBoard):
         start = self._it.copy()
         for _ in moves:
             start.back()
-        fields = self._fields() if not moves else fields_of(start.fen())
         board._take(_board.Board())
-        board._begin(fields)
+        if self._set is not None and not self._it.ply:
+            board._begin(self._set)
+        else:
+            board.set_fen(start.fen())
         for move in moves:
             board._it.push(move)
         return board
