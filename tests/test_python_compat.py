@@ -281,6 +281,10 @@ class Boards(unittest.TestCase):
             lambda: board.attackers(chess.WHITE, chess.E4, chess.BB_ALL),
         ):
             self.assertRaises(NotImplementedError, call)
+        for name, value, error in (("chess960", True, NotImplementedError), ("occupied", 1, AttributeError), ("castling_rights", chess.BB_B1, NotImplementedError)):
+            self.assertRaises(error, setattr, board, name, value)
+        for kind in (chess.Board, chess.BaseBoard):
+            self.assertRaises(TypeError, kind, 5)
         with self.assertRaisesRegex(ValueError, "null move"):
             board.push(chess.Move.null())
         self.assertRaises(chess.IllegalMoveError, board.push, chess.Move.from_uci("e2e5"))

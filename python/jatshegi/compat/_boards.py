@@ -5,7 +5,7 @@ from typing import Any, Callable, Dict, Iterable, Iterator, List, NamedTuple, Op
 
 from .. import _board
 from .. import _library as c
-from .._checks import colour_of, square_of, whole
+from .._checks import colour_of, square_of, text_of, whole
 from .._errors import IllegalMoveError, InvalidFenError
 from .._status import Outcome, Termination
 from . import _epd
@@ -119,7 +119,6 @@ class Board(BaseBoard):
     uci_variant: Optional[str] = "chess"
     xboard_variant: Optional[str] = "normal"
     starting_fen = STARTING_FEN
-    chess960 = False
 
     def __init__(self, fen: Optional[str] = STARTING_FEN, *, chess960: bool = False) -> None:
         if chess960:
@@ -194,11 +193,21 @@ class Board(BaseBoard):
             raise ValueError("moves have been made, and a field of their position can't be set: begin a new game by clear_stack() or set_fen()")
         self._begin(self._fields()._replace(**changes))
 
+    @property
+    def chess960(self) -> bool:
+        """False. Raises `NotImplementedError` if it is set to True."""
+        return False
+
+    @chess960.setter
+    def chess960(self, chess960: bool) -> None:
+        if chess960:
+            refuse("there is no Chess960")
+
     # ---- the position
 
     def set_fen(self, fen: str) -> None:
         """Begins a new game from a FEN. Raises `ValueError`."""
-        if not self._is_plain(fen):
+        if not self._is_plain(text_of(fen, "a FEN is a text")):
             self._begin(fields_of(fen))
 
     # Begins from a FEN that the library takes as it is, with its castling rights and its target. Nothing has changed if it isn't such a FEN.

@@ -5,7 +5,7 @@ import re
 from typing import Any, Callable, Dict, List, Mapping, Optional, Tuple, Type, TypeVar
 
 from .. import svg as _svg
-from .._checks import colour_of, square_of
+from .._checks import colour_of, square_of, text_of
 from ._names import (
     BB_ALL,
     BB_RANKS,
@@ -36,7 +36,7 @@ _Base = TypeVar("_Base", bound="BaseBoard")
 def men_of(fen: str) -> Dict[Square, Piece]:
     """The pieces of the first field of a FEN. Raises `ValueError`."""
     men: Dict[Square, Piece] = {}
-    ranks = fen.strip().split("/")
+    ranks = text_of(fen, "the position part of a FEN is a text").strip().split("/")
     for rank, text in zip(range(7, -1, -1), ranks):
         squares = re.sub("[1-8]", lambda empty: "." * int(empty[0]), text)
         if len(squares) != 8 or len(ranks) != 8 or re.search("[1-8]{2}|[^1-8PNBRQKpnbrqk]", text):
