@@ -254,7 +254,7 @@ class Boards(unittest.TestCase):
         start = chess.Board()
         self.assertEqual(start.epd(hmvc=0, fmvn=1), "rnbqkbnr/pppppppp/8/8/8/8/PPPPPPPP/RNBQKBNR w KQkq - hmvc 0; fmvn 1;")
         self.assertEqual(start.epd(pv=[chess.Move.from_uci("e2e4"), chess.Move.from_uci("e7e5")], sm=chess.Move.from_uci("e2e4")).split("- ")[1], "pv e4 e5; sm e4;")
-        for epd in ("", "8/8/8/8 w - -", "4k3/8/8/8/8/8/8/4K3 w - - bm Qh5;", "4k3/8/8/8/8/8/8/4K3 w - - 5 6;"):
+        for epd in ("", "8/8/8/8 w - -", "4k3/8/8/8/8/8/8/4K3 w - - bm Qh5;", "4k3/8/8/8/8/8/8/4K3 w - - 5 6;", "4k3/8/8/8/8/8/8/4K3 w - - hmvc;", "4k3/8/8/8/8/8/8/4K3 w - - fmvn 1.5;"):
             with self.assertRaises(ValueError, msg=epd):
                 chess.Board.from_epd(epd)
 

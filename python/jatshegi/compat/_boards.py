@@ -362,7 +362,9 @@ class Board(BaseBoard):
         operations = _epd.read(parts[4], found) if len(parts) > 4 else {}
         fields = found._fields()
         clock, number = (operations.get(name, default) for name, default in (("hmvc", 0), ("fmvn", 1)))
-        self._begin(fields._replace(clock=int(clock), number=int(number)))
+        if not isinstance(clock, int) or not isinstance(number, int):
+            raise ValueError(f"hmvc and fmvn are whole numbers: {epd!r}")
+        self._begin(fields._replace(clock=clock, number=max(number, 1)))
         return operations
 
     def __repr__(self) -> str:
