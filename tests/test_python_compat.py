@@ -93,7 +93,7 @@ class Names(unittest.TestCase):
 class Boards(unittest.TestCase):
     def test_the_first_page_of_the_documentation(self):
         board = chess.Board()
-        self.assertTrue(repr(board.legal_moves).endswith("(Na3, Nc3, Nf3, Nh3, a3, a4, b3, b4, c3, c4, d3, d4, e3, e4, f3, f4, g3, g4, h3, h4)>"))
+        self.assertTrue(repr(board.legal_moves).endswith("(Nh3, Nf3, Nc3, Na3, h3, g3, f3, e3, d3, c3, b3, a3, h4, g4, f4, e4, d4, c4, b4, a4)>"))
         self.assertNotIn(chess.Move.from_uci("a8a1"), board.legal_moves)
         for san in ("e4", "e5", "Qh5", "Nc6", "Bc4", "Nf6", "Qxf7"):
             self.assertIsInstance(board.push_san(san), chess.Move)
@@ -160,6 +160,64 @@ class Boards(unittest.TestCase):
         moved.clear_stack()
         moved.turn = chess.WHITE
         self.assertEqual((moved.move_stack, moved.fen().split()[1]), ([], "w"))
+
+    def test_null_moves(self):
+        board = played("e4 e5 Nf3")
+        board.push(chess.Move.null())
+        self.assertEqual((board.fen(), board.ply(), board.peek()), ("rnbqkbnr/pppp1ppp/8/4p3/4P3/5N2/PPPP1PPP/RNBQKB1R w KQkq - 2 3", 4, chess.Move.null()))
+        board.push_san("d4")
+        self.assertEqual([move.uci() for move in board.move_stack], ["e2e4", "e7e5", "g1f3", "0000", "d2d4"])
+        for other in (board.copy(), copy.deepcopy(board), pickle.loads(pickle.dumps(board)), board.copy(stack=2)):
+            self.assertEqual(other, board)
+            self.assertEqual(([other.pop().uci(), other.pop().uci()], other), (["d2d4", "0000"], played("e4 e5 Nf3")))
+        self.assertEqual((board.root(), len(board.copy(stack=False).move_stack), board.copy(stack=False) == board), (chess.Board(), 0, True))
+        self.assertEqual((board.pop().uci(), board.pop().uci(), board.pop().uci(), board), ("d2d4", "0000", "g1f3", played("e4 e5")))
+        start = chess.Board()
+        self.assertEqual([start.push_san(san).uci() for san in ("--", "e5", "Z0")], ["0000", "e7e5", "0000"])
+        self.assertEqual((start.fen(), start.variation_san([chess.Move.from_uci("b8c6"), chess.Move.null()])), ("rnbqkbnr/pppp1ppp/8/4p3/8/8/PPPPPPPP/RNBQKBNR b KQkq - 1 2", "2... Nc6 3. --"))
+        start.clear_stack()
+        self.assertEqual((start.move_stack, start.fen().split()[4:]), ([], ["1", "2"]))
+        self.assertRaises(IndexError, start.pop)
+
+    def test_a_null_move_out_of_check(self):
+        board = played("e4 f5 Qh5+")
+        board.push(chess.Move.null())
+        self.assertEqual((board.status(), board.was_into_check()), (chess.Status.OPPOSITE_CHECK, True))
+        for call in (board.legal_moves.count, board.is_check, lambda: board.push(chess.Move.null())):
+            self.assertRaises(ValueError, call)
+        self.assertEqual((board.pop(), board.is_check(), len(board.move_stack)), (chess.Move.null(), True, 3))
+
+    def test_repetitions_over_null_moves(self):
+        board = chess.Board()
+        for number in range(2):
+            for san in ("Nf3", "--", "Ng1", "--"):
+                self.assertFalse(board.can_claim_threefold_repetition())
+                board.push_san(san)
+            self.assertEqual([board.is_repetition(count) for count in (2, 3)], [True, number == 1])
+        self.assertEqual((board.outcome(), board.outcome(claim_draw=True).termination, board.is_game_over(claim_draw=True)), (None, chess.Termination.THREEFOLD_REPETITION, True))
+        for _ in range(2):
+            for san in ("Nf3", "--", "Ng1", "--"):
+                board.push_san(san)
+        self.assertEqual((board.outcome().termination, board.is_fivefold_repetition()), (chess.Termination.FIVEFOLD_REPETITION, True))
+
+    def test_lists_that_a_board_has_are_not_changed(self):
+        """A change of a copy would be lost without a word."""
+        board = played("e4")
+        for change in (lambda: board.move_stack.pop(), lambda: board.move_stack.append(chess.Move.null()), lambda: board.occupied_co.__setitem__(chess.WHITE, 0)):
+            self.assertRaises((TypeError, AttributeError), change)
+        self.assertEqual((board.move_stack, board.move_stack.copy(), pickle.loads(pickle.dumps(board.move_stack))), ([chess.Move.from_uci("e2e4")],) * 3)
+
+    def test_the_order_of_legal_moves(self):
+        """Those of a king in check, of pieces, castling, captures, steps of pawns and en passant, each from the highest square down."""
+        board = chess.Board("1n2k3/P7/8/3pP3/8/8/8/R3K2R w KQ d6 0 2")
+        self.assertEqual(
+            " ".join(move.uci() for move in board.legal_moves),
+            "h1h8 h1h7 h1h6 h1h5 h1h4 h1h3 h1h2 h1g1 h1f1 e1f2 e1e2 e1d2 e1f1 e1d1 a1a6 a1a5 a1a4 a1a3 a1a2 a1d1 a1c1 a1b1 e1g1 e1c1 "
+            "a7b8q a7b8r a7b8b a7b8n a7a8q a7a8r a7a8b a7a8n e5e6 e5d6",
+        )
+        check = chess.Board("4k3/8/8/8/7b/8/3P2P1/R3K2R w - - 0 1")
+        self.assertEqual(" ".join(move.uci() for move in check.legal_moves), "e1e2 e1f1 e1d1 h1h4 g2g3")
+        self.assertEqual(list(chess.Board().piece_map())[:2], [chess.H8, chess.G8])
 
     def test_masks_of_moves(self):
         board = chess.Board("r3k2r/8/8/3pP3/8/8/8/R3K2R w KQkq d6 0 2")
@@ -285,8 +343,6 @@ class Boards(unittest.TestCase):
             self.assertRaises(error, setattr, board, name, value)
         for kind in (chess.Board, chess.BaseBoard):
             self.assertRaises(TypeError, kind, 5)
-        with self.assertRaisesRegex(ValueError, "null move"):
-            board.push(chess.Move.null())
         self.assertRaises(chess.IllegalMoveError, board.push, chess.Move.from_uci("e2e5"))
         self.assertRaises(IndexError, board.pop)
         self.assertEqual(board, chess.Board())

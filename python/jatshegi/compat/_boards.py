@@ -1,15 +1,16 @@
 """The board of python-chess over the library's."""
 from __future__ import annotations
 
-from typing import Any, Callable, Dict, Iterable, Iterator, List, NamedTuple, Optional, Tuple, Type, TypeVar, Union
+from typing import Any, Callable, Dict, Iterable, Iterator, List, Optional, Tuple, Type, TypeVar, Union
 
 from .. import _board
 from .. import _library as c
 from .._checks import colour_of, square_of, text_of, whole
-from .._errors import IllegalMoveError, InvalidFenError
+from .._errors import InvalidFenError
 from .._status import Outcome, Termination
 from . import _epd
-from ._men import BaseBoard, counts, field_of, men_of, pawns_on_last_ranks
+from ._fields import IN_CHECK, NO_POSITION, ROOKS, TWO_KINGS, Fields, fields_from, fields_of
+from ._men import BaseBoard, counts, men_of, pawns_on_last_ranks
 from ._names import (
     BB_ALL,
     BB_SQUARES,
@@ -21,7 +22,6 @@ from ._names import (
     PAWN,
     QUEEN,
     ROOK,
-    SQUARE_NAMES,
     STARTING_FEN,
     WHITE,
     Bitboard,
@@ -38,77 +38,16 @@ from ._names import (
     refuse,
     scan_forward,
 )
+from ._order import LegalMoveGenerator, MoveStack
 
 _Of = TypeVar("_Of", bound="Board")
 
-# The square of the rook of each castling right, and the king's.
-_ROOKS = {"K": (7, 4), "Q": (0, 4), "k": (63, 60), "q": (56, 60)}
-# The faults of a FEN whose fields can be read: such pieces are kept, and are no position.
-_NO_POSITION = (3, 4, 5, 10)
-_IN_CHECK = 10
-_TWO_KINGS = "4k3/8/8/8/8/8/8/4K3"
+# The ends of a game that a player claims.
+_CLAIMS = (Termination.FIFTY_MOVES, Termination.THREEFOLD_REPETITION)
 # What `parse_san` of python-chess reads as the null move.
 _NULLS = ("--", "Z0", "0000", "@@@@")
-
-
-class Fields(NamedTuple):
-    """The fields of a FEN."""
-
-    men: Dict[Square, Piece]
-    turn: Color = WHITE
-    castling: str = "-"
-    target: Optional[Square] = None
-    clock: int = 0
-    number: int = 1
-
-    def text(self) -> str:
-        """The FEN."""
-        target = "-" if self.target is None else SQUARE_NAMES[self.target]
-        return f"{field_of(self.men)} {'w' if self.turn else 'b'} {self.castling} {target} {self.clock} {self.number}"
-
-    def kept(self) -> str:
-        """The castling rights whose king and rook stand on their squares."""
-        stand = (it for it in self.castling if it != "-" and self.men.get(_ROOKS[it][0]) == "RrRr"["KkQq".index(it)] and self.men.get(_ROOKS[it][1]) == ("K" if it in "KQ" else "k"))
-        return "".join(stand) or "-"
-
-
-def fields_of(fen: str) -> Fields:
-    """The fields of a FEN, of which only the first one must be there. Raises `ValueError`."""
-    parts = fen.split()
-    if not 1 <= len(parts) <= 6:
-        raise ValueError(f"a FEN has one to six fields: {fen!r}")
-    men = men_of(parts[0])
-    rest = parts[1:] + ["w", "-", "-", "0", "1"][len(parts) - 1 :]
-    # (the library reads the other fields)
-    _board.Board(" ".join([_TWO_KINGS, *rest]))
-    return _fields(men, *rest)
-
-
-def _fields(men: Dict[Square, Piece], turn: str, castling: str, target: str, clock: str, number: str) -> Fields:
-    return Fields(men, turn == "w", castling, None if target == "-" else SQUARE_NAMES.index(target), int(clock), max(int(number), 1))
-
-
-class LegalMoveGenerator:
-    """The legal moves of a board, as it has them at each moment."""
-
-    def __init__(self, board: Board) -> None:
-        self.board = board
-
-    def __bool__(self) -> bool:
-        return bool(self.board._game.legal_moves)
-
-    def count(self) -> int:
-        """How many there are."""
-        return len(self.board._game.legal_moves)
-
-    def __iter__(self) -> Iterator[Move]:
-        return map(OURS.__getitem__, self.board._game.legal_moves)
-
-    def __contains__(self, move: Move) -> bool:
-        return self.board.is_legal(move)
-
-    def __repr__(self) -> str:
-        return f"<LegalMoveGenerator at {id(self):#x} ({', '.join(self.board.san(move) for move in self)})>"
+# The boards of the library before each null move, and the fields that were set of them.
+_Past = Tuple[Tuple[_board.Board, Optional[Fields]], ...]
 
 
 class Board(BaseBoard):
@@ -132,9 +71,11 @@ class Board(BaseBoard):
     # A board of the library, from whose position on moves are made.
     def _take(self, board: _board.Board) -> None:
         self._it = board
-        # The fields that were set last; and the library's refusal of them, where they are no position.
+        # The fields that were set last; and the library's refusal of them, if they are no position.
         self._set: Optional[Fields] = None
         self._refusal: Optional[InvalidFenError] = None
+        # (a null move is none of the library's: another board goes on after it)
+        self._past: _Past = ()
 
     @classmethod
     def _of(cls: Type[_Of], board: _board.Board) -> _Of:
@@ -162,16 +103,16 @@ class Board(BaseBoard):
             self._it.set_fen(fields.text())
             self._refusal = None
         except InvalidFenError as fault:
-            if fault.fault not in _NO_POSITION:
+            if fault.fault not in NO_POSITION:
                 raise
             self._refusal = fault
-        self._set = fields
+        self._set, self._past = fields, ()
 
     # The fields as they were set, or as moves have left them.
     def _fields(self) -> Fields:
         if self._set is not None and (self._refusal is not None or not self._it.ply):
             return self._set
-        return _fields(self._men_now(), *self._it.fen().split()[1:])
+        return fields_from(self._men_now(), *self._it.fen().split()[1:])
 
     def _men_now(self) -> Dict[Square, Piece]:
         if self._refusal is not None and self._set is not None:
@@ -189,7 +130,7 @@ class Board(BaseBoard):
 
     # Sets a field. Raises `ValueError` if moves have been made: the game would be another one.
     def _edit(self, **changes: Any) -> None:
-        if self._refusal is None and self._it.ply:
+        if self._is_moved():
             raise ValueError("moves have been made, and a field of their position can't be set: begin a new game by clear_stack() or set_fen()")
         self._begin(self._fields()._replace(**changes))
 
@@ -236,15 +177,26 @@ class Board(BaseBoard):
         """No pieces, and White to move."""
         self._begin(Fields({}))
 
+    # Whether a move has been made since the position was set, or since the last null move.
+    def _is_played(self) -> bool:
+        return self._refusal is None and bool(self._it.ply)
+
+    # Whether a move has been made.
+    def _is_moved(self) -> bool:
+        return bool(self._past) or self._is_played()
+
     def clear_stack(self) -> None:
         """Forgets the moves; the position stays."""
-        self._begin(self._fields())
+        if self._is_played():
+            self._take(_board.Board(self._it.fen()))
+        else:
+            self._begin(self._fields())
 
     def root(self: _Of) -> _Of:
         """A board with the position in which the game began."""
-        if self._refusal is not None:
-            return self.copy(stack=False)
-        start = self._it.copy()
+        if not self._is_moved():
+            return self.copy()
+        start = (self._past[0][0] if self._past else self._it).copy()
         start._call(c.lib.jatshegi_board_start, "root")
         return type(self)(start.fen())
 
@@ -260,17 +212,23 @@ class Board(BaseBoard):
     @property
     def castling_rights(self) -> Bitboard:
         """The rooks' squares of the castling rights, which can be set before a move is made."""
-        return sum(BB_SQUARES[_ROOKS[it][0]] for it in self._fields().castling if it != "-")
+        return sum(BB_SQUARES[ROOKS[it][0]] for it in self._fields().castling if it != "-")
 
     @castling_rights.setter
     def castling_rights(self, rights: Bitboard) -> None:
-        if int(rights) & ~sum(BB_SQUARES[rook] for rook, _ in _ROOKS.values()):
+        if int(rights) & ~sum(BB_SQUARES[rook] for rook, _ in ROOKS.values()):
             refuse("there is no Chess960: castling rights are of a1, h1, a8 and h8")
-        self._edit(castling="".join(it for it, (rook, _) in _ROOKS.items() if int(rights) >> rook & 1) or "-")
+        self._edit(castling="".join(it for it, (rook, _) in ROOKS.items() if int(rights) >> rook & 1) or "-")
+
+    def set_castling_fen(self, castling_fen: str) -> None:
+        """Sets the castling rights by the letters of a FEN, before a move is made. Raises `ValueError`."""
+        if len(text_of(castling_fen, "castling rights are a text, as KQkq").split()) != 1:
+            raise ValueError(f"castling rights are - or letters of KQkq: {castling_fen!r}")
+        self._edit(castling=fields_of(f"{TWO_KINGS} w {castling_fen.strip()} - 0 1").castling)
 
     def clean_castling_rights(self) -> Bitboard:
         """The castling rights that the position has."""
-        return sum(BB_SQUARES[_ROOKS[it][0]] for it in self._fields().kept() if it != "-") if self._refusal is not None else self._it.castling_rights
+        return sum(BB_SQUARES[ROOKS[it][0]] for it in self._fields().kept() if it != "-") if self._refusal is not None else self._it.castling_rights
 
     @property
     def ep_square(self) -> Optional[Square]:
@@ -345,6 +303,14 @@ class Board(BaseBoard):
         is_shown = en_passant == "fen" or self._refusal is None and en_passant == "xfen" and self.has_pseudo_legal_en_passant()
         return " ".join(fields._replace(castling=fields.kept(), target=fields.target if is_shown else None).text().split()[:4])
 
+    def shredder_fen(self, *, en_passant: str = "legal", promoted: Optional[bool] = None) -> str:
+        """Raises `NotImplementedError`."""
+        return self.fen(shredder=True)
+
+    def castling_shredder_fen(self) -> str:
+        """Raises `NotImplementedError`."""
+        return self.fen(shredder=True)
+
     def castling_xfen(self) -> str:
         """The castling field of the FEN."""
         return self._position(False, "legal").split()[2]
@@ -374,7 +340,7 @@ class Board(BaseBoard):
         from . import svg
 
         is_checked = self._refusal is None and self.is_check()
-        return svg.board(self, size=390, lastmove=self.peek() if self.move_stack else None, check=self.king(self.turn) if is_checked else None)
+        return svg.board(self, size=390, lastmove=self.peek() if self._is_moved() else None, check=self.king(self.turn) if is_checked else None)
 
     # ---- copies
 
@@ -382,21 +348,16 @@ class Board(BaseBoard):
         """Another board, with all moves before it, with none, or with the last ones."""
         board = type(self).__new__(type(self))
         board.__dict__.update(self.__dict__)
-        if self._refusal is not None or stack is True:
-            board._it = self._it.copy()
+        board._it, board._past = self._it.copy(), tuple((it.copy(), fields) for it, fields in self._past)
+        if stack is True or not self._is_moved():
             return board
-        moves = self._it.move_stack
+        moves = self.move_stack
         moves = moves[max(len(moves) - int(stack), 0) :]
-        start = self._it.copy()
         for _ in moves:
-            start.back()
-        board._take(_board.Board())
-        if self._set is not None and not self._it.ply:
-            board._begin(self._set)
-        else:
-            board.set_fen(start.fen())
+            board.pop()
+        board.clear_stack()
         for move in moves:
-            board._it.push(move)
+            board.push(move)
         return board
 
     def _with(self: _Of, fields: Fields) -> _Of:
@@ -427,12 +388,16 @@ class Board(BaseBoard):
 
     def _transformed(self, f: Callable[[Bitboard], Bitboard]) -> Fields:
         fields, rights = self._fields(), f(self.clean_castling_rights())
-        castling = "".join(it for it, (rook, _) in _ROOKS.items() if rights >> rook & 1) or "-"
+        castling = "".join(it for it, (rook, _) in ROOKS.items() if rights >> rook & 1) or "-"
         target = None if fields.target is None else f(BB_SQUARES[fields.target]).bit_length() - 1
         return fields._replace(men=self._turned(f), castling=castling, target=target)
 
+    # (python-chess's key of a position, which many programs use)
+    def _transposition_key(self) -> str:
+        return self._position(False, "legal")
+
     def __reduce__(self) -> Any:
-        return _restored, (type(self), self._it, self._set, self._refusal)
+        return _restored, (type(self), self._it, self._set, self._refusal, self._past)
 
     def __eq__(self, other: object) -> bool:
         if not isinstance(other, Board):
@@ -482,23 +447,47 @@ class Board(BaseBoard):
         refuse("there are no pseudo-legal moves")
 
     def push(self, move: Move) -> None:
-        """Makes a legal move. Raises `IllegalMoveError`, also for the null move."""
-        if not move:
-            raise IllegalMoveError("the null move isn't made: the library makes legal moves alone")
-        self._game.push(move)
+        """Makes a legal move, or passes by the null move. Raises `IllegalMoveError`."""
+        if move:
+            self._game.push(move)
+        else:
+            self._pass()
+
+    # Makes the null move. If it leaves a king in check, the board has no position until the move is taken back.
+    def _pass(self) -> None:
+        it, fields = self._game, self._fields()
+        after = Board.empty()
+        after._begin(fields._replace(turn=not fields.turn, target=None, clock=fields.clock + 1, number=fields.number + (fields.turn == BLACK)))
+        past = (*self._past, (it, self._set))
+        self._it, self._set, self._refusal, self._past = after._it, after._set, after._refusal, past
 
     def pop(self) -> Move:
         """Takes the last move back. Raises `IndexError` if there is none."""
-        return OURS[self._game.pop()]
+        if self._is_played():
+            return OURS[self._it.pop()]
+        if not self._past:
+            raise IndexError("no move has been made")
+        *past, (self._it, self._set) = self._past
+        self._refusal, self._past = None, tuple(past)
+        return Move.null()
 
     def peek(self) -> Move:
         """The last move. Raises `IndexError` if there is none."""
-        return OURS[self._game.peek()]
+        if self._is_played():
+            return OURS[self._it.peek()]
+        if not self._past:
+            raise IndexError("no move has been made")
+        return Move.null()
 
     @property
-    def move_stack(self) -> List[Move]:
-        """The moves that were made: a list of the caller's own."""
-        return [] if self._refusal is not None else [OURS[move] for move in self._it.move_stack]
+    def move_stack(self) -> MoveStack:
+        """The moves that were made: a list of the caller's own, which can't be changed."""
+        moves: List[Move] = []
+        for it, _ in self._past:
+            moves += [*map(OURS.__getitem__, it.move_stack), Move.null()]
+        if self._refusal is None:
+            moves += map(OURS.__getitem__, self._it.move_stack)
+        return MoveStack(moves)
 
     def find_move(self, from_square: Square, to_square: Square, promotion: Optional[PieceType] = None) -> Move:
         """The legal move from a square to a square, by default to a queen. Raises `IllegalMoveError`."""
@@ -558,7 +547,12 @@ class Board(BaseBoard):
 
     def variation_san(self, variation: Iterable[Move]) -> str:
         """The moves in turn with their numbers. Raises `IllegalMoveError`."""
-        return self._game.variation_san(variation)
+        board, words = self.copy(stack=False), []
+        for move in variation:
+            if board.turn or not words:
+                words.append(f"{board.fullmove_number}{'.' if board.turn else '...'}")
+            words.append(board.san_and_push(move))
+        return " ".join(words)
 
     def parse_san(self, san: str) -> Move:
         """The legal move of a text in standard or long algebraic notation. Raises `InvalidMoveError`, `IllegalMoveError` or `AmbiguousMoveError`."""
@@ -589,6 +583,12 @@ class Board(BaseBoard):
         move = self.parse_uci(uci)
         self.push(move)
         return move
+
+    def xboard(self, move: Move, chess960: Optional[bool] = None) -> str:
+        """The move's text as XBoard has it, which is UCI's but for the null move."""
+        return self.uci(move, chess960=chess960) if move else move.xboard()
+
+    parse_xboard, push_xboard = parse_san, push_san
 
     # ---- attacks
 
@@ -628,7 +628,7 @@ class Board(BaseBoard):
 
     def was_into_check(self) -> bool:
         """Whether the side not to move is in check, which no position has."""
-        return self._refusal is not None and self._refusal.fault == _IN_CHECK
+        return self._refusal is not None and self._refusal.fault == IN_CHECK
 
     def pin_mask(self, color: Color, square: Square) -> Bitboard:
         """The line to the king on which the square is pinned; all squares if it isn't. The library says which rooks, bishops and queens attack the square."""
@@ -680,6 +680,8 @@ class Board(BaseBoard):
     def outcome(self, *, claim_draw: bool = False) -> Optional[Outcome]:
         """How the game ended, or None if it goes on. With `claim_draw` it ends if the side to move may claim a draw."""
         found = self._game.outcome(claim_draw=claim_draw)
+        if self._past and (found is None or found.termination in _CLAIMS):
+            found = self._repeated(claim_draw) or found
         if found is None or found.winner is not None:
             return found
         # (python-chess asks in this order, if several hold)
@@ -688,6 +690,14 @@ class Board(BaseBoard):
                 return Outcome(why, None)
         return found
 
+    # The end by a position that has come up before the last null move, too.
+    def _repeated(self, claim_draw: bool) -> Optional[Outcome]:
+        if self.is_repetition(5):
+            return Outcome(Termination.FIVEFOLD_REPETITION, None)
+        if not claim_draw or self._game.can_claim_fifty_moves() or not self.can_claim_threefold_repetition():
+            return None
+        return Outcome(Termination.THREEFOLD_REPETITION, None)
+
     def result(self, *, claim_draw: bool = False) -> str:
         """'1-0', '0-1', '1/2-1/2', or '*'."""
         found = self.outcome(claim_draw=claim_draw)
@@ -695,7 +705,7 @@ class Board(BaseBoard):
 
     def is_game_over(self, *, claim_draw: bool = False) -> bool:
         """Whether the game has ended."""
-        return self._game.is_game_over(claim_draw=claim_draw)
+        return self.outcome(claim_draw=claim_draw) is not None if self._past else self._game.is_game_over(claim_draw=claim_draw)
 
     def is_checkmate(self) -> bool:
         """Whether the side to move is mated."""
@@ -727,11 +737,33 @@ class Board(BaseBoard):
 
     def is_repetition(self, count: int = 3) -> bool:
         """Whether the position has come up that often."""
-        return self._game.is_repetition(count)
+        if not self._past:
+            return self._game.is_repetition(count)
+        key = self._game.epd()
+        return self._it.repetitions() + sum(it == key for it in self._earlier()) >= count
+
+    # The positions before the last null move, as texts that are equal if the positions are.
+    def _earlier(self) -> Iterator[str]:
+        for board, _ in self._past:
+            it = board.copy()
+            yield it.epd()
+            while it.ply:
+                it.back()
+                yield it.epd()
+
+    # Whether a legal move makes a position that has come up twice.
+    def _can_repeat(self) -> bool:
+        for move in self.legal_moves:
+            self.push(move)
+            found = self.is_repetition(3)
+            self.pop()
+            if found:
+                return True
+        return False
 
     def can_claim_draw(self) -> bool:
         """Whether the side to move may claim a draw by 50 moves or by repetition."""
-        return self._game.can_claim_draw()
+        return self._game.can_claim_draw() or bool(self._past) and self.can_claim_threefold_repetition()
 
     def can_claim_fifty_moves(self) -> bool:
         """Whether the side to move may claim a draw by 50 moves."""
@@ -739,7 +771,8 @@ class Board(BaseBoard):
 
     def can_claim_threefold_repetition(self) -> bool:
         """Whether the side to move may claim a draw by repetition."""
-        return self._game.can_claim_threefold_repetition()
+        found = self._game.can_claim_threefold_repetition()
+        return found or bool(self._past) and (self.is_repetition(3) or self._can_repeat())
 
     def is_variant_end(self) -> bool:
         """False: there are no variants."""
@@ -748,8 +781,8 @@ class Board(BaseBoard):
     is_variant_win = is_variant_loss = is_variant_draw = is_variant_end
 
 
-def _restored(of: Type[_Of], board: _board.Board, fields: Optional[Fields], refusal: Optional[InvalidFenError]) -> _Of:
+def _restored(of: Type[_Of], board: _board.Board, fields: Optional[Fields], refusal: Optional[InvalidFenError], past: _Past = ()) -> _Of:
     """The board of a pickle."""
     found = of._of(board)
-    found._set, found._refusal = fields, refusal
+    found._set, found._refusal, found._past = fields, refusal, past
     return found

@@ -2,7 +2,7 @@
 from __future__ import annotations
 
 import re
-from typing import Any, Callable, Dict, List, Mapping, Optional, Tuple, Type, TypeVar
+from typing import Any, Callable, Dict, Mapping, Optional, Tuple, Type, TypeVar
 
 from .. import svg as _svg
 from .._checks import colour_of, square_of, text_of
@@ -91,9 +91,9 @@ class BaseBoard:
         return self._squares_of(None, None)
 
     @property
-    def occupied_co(self) -> List[Bitboard]:
+    def occupied_co(self) -> Tuple[Bitboard, Bitboard]:
         """The squares of Black's pieces and of White's, by the colour."""
-        return [self._squares_of(None, BLACK), self._squares_of(None, WHITE)]
+        return self._squares_of(None, BLACK), self._squares_of(None, WHITE)
 
     @property
     def pawns(self) -> Bitboard:
@@ -178,7 +178,8 @@ class BaseBoard:
 
     def piece_map(self, *, mask: Bitboard = BB_ALL) -> Dict[Square, Piece]:
         """The pieces by their squares."""
-        return {at: man for at, man in self._men_now().items() if mask >> at & 1}
+        men = self._men_now()
+        return {at: men[at] for at in sorted(men, reverse=True) if mask >> at & 1}
 
     def set_piece_map(self, pieces: Mapping[Square, Piece]) -> None:
         """Puts these pieces alone."""
