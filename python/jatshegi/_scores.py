@@ -6,6 +6,7 @@ from functools import total_ordering
 from typing import Dict, List, NamedTuple, Optional, Tuple, TypedDict, Union
 
 from ._moves import WHITE, Move
+from ._wdl import PovWdl, Wdl, wdl_of, wdl_said
 
 
 @total_ordering
@@ -40,6 +41,14 @@ class Score:
         """Whether it is a mate."""
         return self._at[0] != 1
 
+    def wdl(self, *, model: str = "sf", ply: int = 30) -> Wdl:
+        """The chances of the score by the model 'lichess', which has no draws. Raises `NotImplementedError` for another model.
+
+        >>> Cp(100).wdl(model="lichess")
+        Wdl(wins=591, draws=0, losses=409)
+        """
+        return wdl_of(self, model)
+
     def __neg__(self) -> Score:
         kind, value = self._at
         if kind == 1:
@@ -66,25 +75,52 @@ class Score:
         return f"{value:+}" if kind == 1 else f"#{-value:+}" if value else "#+0" if kind == 3 else "#-0"
 
 
-def Cp(cp: int) -> Score:
+class Cp(Score):
     """A score in centipawns."""
-    return Score((1, cp))
+
+    __slots__ = ()
+
+    def __init__(self, cp: int) -> None:
+        super().__init__((1, cp))
+
+    @property
+    def cp(self) -> int:
+        """The centipawns."""
+        return self._at[1]
 
 
-def Mate(moves: int) -> Score:
-    """A mate in this number of moves; where it is 0 or less, the side is mated."""
-    return Score((2 if moves > 0 else 0, -moves))
+class Mate(Score):
+    """A mate in this number of moves; if it is 0 or less, the side is mated."""
+
+    __slots__ = ()
+
+    def __init__(self, moves: int) -> None:
+        super().__init__((2 if moves > 0 else 0, -moves))
+
+    @property
+    def moves(self) -> int:
+        """The number of moves, below 0 if the side is mated."""
+        return -self._at[1]
+
+
+class MateGivenType(Mate):
+    """The score of a side that has mated."""
+
+    __slots__ = ()
+
+    def __init__(self) -> None:
+        Score.__init__(self, (3, 0))
 
 
 #: The side has mated.
-MateGiven = Score((3, 0))
+MateGiven = MateGivenType()
 
 
 class PovScore(NamedTuple):
-    """A score with the side whose it is.
+    """A score with the side whose it is. Two are equal if they are the same for White.
 
-    >>> PovScore(Cp(20), jatshegi.BLACK).white()
-    Cp(-20)
+    >>> PovScore(Cp(20), jatshegi.BLACK), PovScore(Cp(20), jatshegi.BLACK).white()
+    (PovScore(Cp(+20), BLACK), Cp(-20))
     """
 
     relative: Score
@@ -105,6 +141,22 @@ class PovScore(NamedTuple):
     def is_mate(self) -> bool:
         """Whether it is a mate."""
         return self.relative.is_mate()
+
+    def wdl(self, *, model: str = "sf", ply: int = 30) -> PovWdl:
+        """The chances of the score, as `Score.wdl`."""
+        return PovWdl(self.relative.wdl(model=model, ply=ply), self.turn)
+
+    def __eq__(self, other: object) -> bool:
+        return self.white() == other.white() if isinstance(other, PovScore) else NotImplemented
+
+    def __ne__(self, other: object) -> bool:
+        return not self == other
+
+    def __hash__(self) -> int:
+        return hash(self.white())
+
+    def __repr__(self) -> str:
+        return f"PovScore({self.relative!r}, {'WHITE' if self.turn else 'BLACK'})"
 
 
 class Info(IntFlag):
@@ -135,6 +187,10 @@ class InfoDict(TypedDict, total=False):
     string: str
     lowerbound: bool
     upperbound: bool
+    wdl: PovWdl
+    currmove: Move
+    currmovenumber: int
+    cpuload: int
 
 
 class PlayResult(NamedTuple):
@@ -208,9 +264,9 @@ def _number(words: List[str]) -> Optional[int]:
         return None
 
 
-_COUNTS = ("depth", "seldepth", "nodes", "nps", "tbhits", "hashfull", "multipv")
+_COUNTS = ("depth", "seldepth", "nodes", "nps", "tbhits", "hashfull", "multipv", "currmovenumber", "cpuload")
 # What begins another part of a line `info`.
-_PARTS = {*_COUNTS, "time", "score", "currmove", "currmovenumber", "cpuload", "refutation", "currline", "string", "pv", "wdl"}
+_PARTS = {*_COUNTS, "time", "score", "currmove", "refutation", "currline", "string", "pv", "wdl"}
 
 
 def parts_of(words: List[str]) -> Dict[str, List[str]]:
@@ -246,6 +302,9 @@ def info_of(parts: Dict[str, List[str]], turn: bool) -> InfoDict:
             info["lowerbound"] = True
         if "upperbound" in value:
             info["upperbound"] = True
+    chances = wdl_said(parts.get("wdl", []))
+    if chances is not None:
+        info["wdl"] = PovWdl(chances, turn)
     if "string" in parts:
         info["string"] = " ".join(parts["string"])
     return info

@@ -26,6 +26,7 @@ from ._engine import Engine
 from ._errors import Error, InvalidMoveError
 from ._moves import STARTING_FEN, Move
 from ._scores import Cp, Info, InfoDict, Limit, Mate, MateGiven, Option, PlayResult, PovScore, Score, info_of, option_of, parts_of
+from ._wdl import PovWdl, Wdl
 
 __all__ = [
     "Cp",
@@ -48,8 +49,10 @@ __all__ = [
     "Option",
     "PlayResult",
     "PovScore",
+    "PovWdl",
     "Score",
     "SimpleEngine",
+    "Wdl",
 ]
 
 
@@ -338,6 +341,10 @@ class SimpleEngine:
 
     def _info(self, board: Board, parts: Dict[str, List[str]]) -> InfoDict:
         info = info_of(parts, board.turn)
+        if parts.get("currmove"):
+            current = self._move(board, parts["currmove"][0])
+            if current is not None:
+                info["currmove"] = current
         if parts.get("pv"):
             after, info["pv"] = board.copy(), []
             for text in parts["pv"]:

@@ -26,7 +26,9 @@ from ..engine import (
     MateGiven,
     Option,
     PovScore,
+    PovWdl,
     Score,
+    Wdl,
 )
 from ._boards import Board
 from ._names import OURS, Move
@@ -53,10 +55,12 @@ __all__ = [
     "Option",
     "PlayResult",
     "PovScore",
+    "PovWdl",
     "Score",
     "SimpleAnalysisResult",
     "SimpleEngine",
     "UciProtocol",
+    "Wdl",
     "popen_uci",
 ]
 
@@ -89,6 +93,8 @@ def _ours(info: InfoDict) -> InfoDict:
     """The information with moves of this module."""
     if "pv" in info:
         info["pv"] = [OURS[move] for move in info["pv"]]
+    if "currmove" in info:
+        info["currmove"] = OURS[info["currmove"]]
     return info
 
 

@@ -3,6 +3,7 @@ from __future__ import annotations
 
 import os
 import random as _random
+import struct
 from ctypes import byref, c_size_t
 from typing import Container, Iterator, NamedTuple, Optional, Type, TypeVar, Union
 
@@ -31,10 +32,15 @@ def zobrist_hash(board: Board) -> int:
     return board._game.polyglot_key()
 
 
-def _raw(book: _polyglot.Reader, place: int) -> int:
-    """The number of an entry's move."""
-    high, low = (ord(book._bytes[16 * place + at]) for at in (8, 9))
-    return high << 8 | low
+def _plain(book: _polyglot.Reader, place: int) -> Entry:
+    """An entry as the file has it, whose move is one from square to square, of no position."""
+    key, raw, weight, learn = struct.unpack(">QHHI", bytes(book._bytes[16 * place : 16 * place + 16]))
+    became = raw >> 12 & 7
+    return Entry(key, raw, weight, learn, Move(raw >> 6 & 63, raw & 63, became + 1 if became else None))
+
+
+def _between(random: Optional[_random.Random], least: int, most: int) -> int:
+    return (_random if random is None else random).randint(least, most)
 
 
 class MemoryMappedReader:
@@ -56,15 +62,25 @@ class MemoryMappedReader:
     def __len__(self) -> int:
         return len(self._book)
 
+    def __getitem__(self, index: int) -> Entry:
+        place = index + len(self) if index < 0 else index
+        if not 0 <= place < len(self):
+            raise IndexError(f"the book has {len(self)} entries: {index}")
+        return _plain(self._book, place)
+
+    def __iter__(self) -> Iterator[Entry]:
+        return map(self.__getitem__, range(len(self)))
+
     def find_all(self, board: Board, *, minimum_weight: int = 1, exclude_moves: Container[Move] = ()) -> Iterator[Entry]:
         """The position's entries whose moves are legal, of at least that weight, without those of some moves."""
         book, key, first, count = self._book, zobrist_hash(board), c_size_t(), c_size_t()
         c.lib.jatshegi_book_find(book._bytes, book._size, key, byref(first), byref(count))
+        entries = []
         for place in range(first.value, first.value + count.value):
             found = board._game._booked(book._bytes, book._size, place)
             if found is not None and found[1] >= minimum_weight and found[0] not in exclude_moves:
-                move, weight, learn = found
-                yield Entry(key, _raw(book, place), weight, learn, OURS[move])
+                entries.append(_plain(book, place)._replace(move=OURS[found[0]]))
+        yield from entries
 
     def get(self, board: Board, default: Optional[Entry] = None, *, minimum_weight: int = 1, exclude_moves: Container[Move] = ()) -> Optional[Entry]:
         """The entry of the greatest weight, or the default."""
@@ -79,17 +95,25 @@ class MemoryMappedReader:
 
     def choice(self, board: Board, *, minimum_weight: int = 1, exclude_moves: Container[Move] = (), random: Optional[_random.Random] = None) -> Entry:
         """One of the entries, each as likely. Raises `IndexError` if there is none."""
-        entries = list(self.find_all(board, minimum_weight=minimum_weight, exclude_moves=exclude_moves))
-        if not entries:
+        chosen = None
+        for place, entry in enumerate(self.find_all(board, minimum_weight=minimum_weight, exclude_moves=exclude_moves)):
+            if chosen is None or _between(random, 0, place) == place:
+                chosen = entry
+        if chosen is None:
             raise IndexError("the book has no move for this position")
-        return (random or _random).choice(entries)
+        return chosen
 
     def weighted_choice(self, board: Board, *, exclude_moves: Container[Move] = (), random: Optional[_random.Random] = None) -> Entry:
         """One of the entries, each as likely as its weight says. Raises `IndexError` if there is none."""
         entries = list(self.find_all(board, exclude_moves=exclude_moves))
         if not entries:
             raise IndexError("the book has no move for this position")
-        return (random or _random).choices(entries, weights=[entry.weight for entry in entries])[0]
+        left = _between(random, 0, sum(entry.weight for entry in entries) - 1)
+        for entry in entries:
+            left -= entry.weight
+            if left < 0:
+                break
+        return entry
 
 
 def open_reader(path: Union[str, "os.PathLike[str]"]) -> MemoryMappedReader:

@@ -1,6 +1,7 @@
 """Pictures, by the names of python-chess's module `svg`."""
 from __future__ import annotations
 
+import html
 from typing import Iterable, Mapping, Optional, Tuple, Union
 
 from .. import svg as _svg
@@ -8,9 +9,18 @@ from ..svg import Arrow as _Arrow
 from ._men import BaseBoard
 from ._names import SQUARE_NAMES, WHITE, Color, Move, Piece, Square, SquareSet
 
-__all__ = ["Arrow", "board", "piece"]
+__all__ = ["Arrow", "SvgWrapper", "board", "piece"]
 
 _LETTERS = {"green": "G", "red": "R", "yellow": "Y", "blue": "B"}
+
+
+class SvgWrapper(str):
+    """A picture, which a notebook shows."""
+
+    __slots__ = ()
+
+    def _repr_svg_(self) -> SvgWrapper:
+        return self
 
 
 class Arrow(_Arrow):
@@ -30,9 +40,9 @@ class Arrow(_Arrow):
         return cls(SQUARE_NAMES.index(pgn[1:3]), SQUARE_NAMES.index(pgn[-2:]), colours[pgn[0]])
 
 
-def piece(piece: Piece, size: Optional[int] = None) -> str:
+def piece(piece: Piece, size: Optional[int] = None) -> SvgWrapper:
     """A picture of a piece."""
-    return _svg.piece(piece, size)
+    return SvgWrapper(_svg.piece(piece, size))
 
 
 def board(
@@ -48,9 +58,11 @@ def board(
     coordinates: bool = True,
     colors: Mapping[str, str] = {},
     flipped: bool = False,
-) -> str:
-    """A picture of a board, whose pieces need be no position."""
-    return _svg.board(
+    borders: bool = False,
+    style: Optional[str] = None,
+) -> SvgWrapper:
+    """A picture of a board, whose pieces need be no position. `style` is CSS for it; `borders` changes nothing."""
+    picture = _svg.board(
         None if board is None else board.piece_map(),
         orientation=orientation != flipped,
         lastmove=lastmove or None,
@@ -62,3 +74,5 @@ def board(
         coordinates=coordinates,
         colors=colors,
     )
+    begin, end, rest = picture.partition(">")
+    return SvgWrapper(picture if style is None else f"{begin}{end}<style>{html.escape(style, quote=False)}</style>{rest}")
