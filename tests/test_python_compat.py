@@ -59,6 +59,9 @@ class Names(unittest.TestCase):
         self.assertEqual((list(chess.scan_forward(0b1010)), list(chess.scan_reversed(0b1010))), ([1, 3], [3, 1]))
         self.assertEqual((chess.flip_vertical(chess.BB_A1), chess.flip_horizontal(chess.BB_A1), chess.flip_diagonal(chess.BB_B1)), (chess.BB_A8, chess.BB_H1, chess.BB_A2))
         self.assertEqual(chess.flip_anti_diagonal(chess.BB_A1), chess.BB_H8)
+        shifts = (chess.shift_2_up, chess.shift_2_down, chess.shift_2_left, chess.shift_2_right, chess.shift_up_left, chess.shift_up_right, chess.shift_down_left, chess.shift_down_right)
+        self.assertEqual([chess.square_name(chess.lsb(shift(chess.BB_C3))) for shift in shifts], ["c5", "c1", "a3", "e3", "b4", "d4", "b2", "d2"])
+        self.assertEqual([shift(chess.BB_G8 | chess.BB_B1) for shift in shifts], [1 << 17, 1 << 46, chess.BB_E8, chess.BB_D1, chess.BB_A2, chess.BB_C2, chess.BB_F7, chess.BB_H7])
         self.assertEqual((chess.shift_right(chess.BB_H4), chess.shift_left(chess.BB_B4), chess.shift_up(chess.BB_A8)), (0, chess.BB_A4, 0))
         self.assertEqual(chess.between(chess.A1, chess.D4), chess.BB_B2 | chess.BB_C3)
         self.assertEqual((chess.between(chess.A1, chess.B3), chess.between(chess.A1, chess.A2), chess.between(chess.A1, chess.A1)), (0, 0, 0))
@@ -183,7 +186,8 @@ class Boards(unittest.TestCase):
         board = played("e4 f5 Qh5+")
         board.push(chess.Move.null())
         self.assertEqual((board.status(), board.was_into_check()), (chess.Status.OPPOSITE_CHECK, True))
-        for call in (board.legal_moves.count, board.is_check, lambda: board.push(chess.Move.null())):
+        self.assertEqual((board.is_check(), board.move_stack[-1], len(board.copy().move_stack)), (False, chess.Move.null(), 4))
+        for call in (board.legal_moves.count, lambda: board.push(chess.Move.null())):
             self.assertRaises(ValueError, call)
         self.assertEqual((board.pop(), board.is_check(), len(board.move_stack)), (chess.Move.null(), True, 3))
 
@@ -253,7 +257,7 @@ class Boards(unittest.TestCase):
         board = chess.Board("8/8/8/8/4N3/8/8/8 w - - 0 1")
         self.assertEqual((board.piece_at(chess.E4), board.status()), (chess.Piece(chess.KNIGHT, chess.WHITE), chess.Status.NO_WHITE_KING | chess.Status.NO_BLACK_KING))
         self.assertEqual((board.is_valid(), board.fen()), (False, "8/8/8/8/4N3/8/8/8 w - - 0 1"))
-        for call in (board.is_check, board.legal_moves.count, board.outcome, lambda: board.push_san("Nf6"), lambda: board.attacks(chess.E4)):
+        for call in (board.is_game_over, board.legal_moves.count, board.outcome, lambda: board.push_san("Nf6"), lambda: board.push(chess.Move.null())):
             with self.assertRaisesRegex(ValueError, "each side has one king"):
                 call()
         self.assertEqual(chess.Board("4k3/8/8/8/8/8/4r3/4K3 b - - 0 1").status(), chess.Status.OPPOSITE_CHECK)
@@ -292,6 +296,25 @@ class Boards(unittest.TestCase):
         self.assertEqual(chess.svg.board(men).count("translate"), 1)
         self.assertEqual(chess.BaseBoard().unicode().splitlines()[0], "♜ ♞ ♝ ♛ ♚ ♝ ♞ ♜")
         self.assertEqual(chess.Board().unicode(borders=True).splitlines()[1], "8 |♜|♞|♝|♛|♚|♝|♞|♜|")
+
+    def test_attacks_of_pieces_that_are_no_position(self):
+        """The library says them of a position that has kings besides."""
+        board = chess.Board("8/8/8/8/4N3/8/8/8 w - - 0 1")
+        self.assertEqual(board.attacks(chess.E4), chess.SquareSet([chess.D2, chess.F2, chess.C3, chess.G3, chess.C5, chess.G5, chess.D6, chess.F6]))
+        self.assertEqual((board.attackers(chess.WHITE, chess.F6), board.is_attacked_by(chess.BLACK, chess.F6), board.is_check(), board.checkers()), ({chess.E4}, False, False, 0))
+        men = chess.BaseBoard("8/8/3p4/8/1Q1p3R/8/8/8")
+        self.assertEqual((len(chess.BaseBoard("8/8/8/8/3Q4/8/8/8").attacks(chess.D4)), men.attacks(chess.H4), men.attacks(chess.A1)), (27, chess.BB_FILE_H ^ chess.BB_H4 | 0x78000000, 0))
+        self.assertEqual((men.attackers(chess.WHITE, chess.D4), men.attackers_mask(chess.BLACK, chess.C5)), ({chess.B4, chess.H4}, chess.BB_D6))
+        pinned = chess.BaseBoard("8/8/8/8/4r3/8/4N3/4K3")
+        self.assertEqual((pinned.is_pinned(chess.WHITE, chess.E2), pinned.pin(chess.WHITE, chess.E2), men.is_pinned(chess.WHITE, chess.B4)), (True, chess.BB_FILE_E, False))
+        full = chess.Board()
+        pieces = chess.BaseBoard()
+        for square in chess.SQUARES:
+            self.assertEqual((pieces.attacks(square), pieces.attackers(chess.WHITE, square)), (full.attacks(square), full.attackers(chess.WHITE, square)))
+        for call in (lambda: chess.BaseBoard("8/8/8/8/8/8/8/KK5R").attacks(chess.H1), lambda: chess.BaseBoard("P7/8/8/8/8/8/8/R7").attacks(chess.A1)):
+            with self.assertRaisesRegex(ValueError, "no position"):
+                call()
+        self.assertRaises(NotImplementedError, men.attackers, chess.WHITE, chess.D4, chess.BB_ALL)
 
     def test_copies(self):
         board = played("e4 e5 Nf3 Nc6")
@@ -336,6 +359,14 @@ class Boards(unittest.TestCase):
             lambda: board.is_pseudo_legal(chess.Move.from_uci("e2e4")),
             lambda: board.fen(shredder=True),
             lambda: board.set_chess960_pos(518),
+            lambda: chess.Board.from_chess960_pos(518),
+            lambda: board.shredder_fen(),
+            lambda: board.generate_pseudo_legal_moves(),
+            lambda: board.is_into_check(chess.Move.from_uci("e2e4")),
+            lambda: chess.syzygy.open_tablebase("."),
+            lambda: chess.gaviota.open_tablebase("."),
+            lambda: chess.variant.find_variant("atomic"),
+            lambda: chess.engine.Cp(1).wdl(),
             lambda: board.attackers(chess.WHITE, chess.E4, chess.BB_ALL),
         ):
             self.assertRaises(NotImplementedError, call)
@@ -368,7 +399,9 @@ GAMES = """[Event "a"]
 class Games(unittest.TestCase):
     def test_reading(self):
         file = io.StringIO(GAMES)
-        games = [chess.pgn.read_game(file) for _ in range(4)]
+        with self.assertLogs("chess.pgn", "ERROR") as logs:
+            games = [chess.pgn.read_game(file) for _ in range(4)]
+        self.assertEqual(len(logs.output), 1)
         self.assertEqual([None if game is None else game.headers["Event"] for game in games], ["a", "b", "c", None])
         first, bad, third, _ = games
         self.assertEqual((first.headers["White"], first.headers["Result"], list(first.headers)[:7]), ('Anna "A"', "1-0", chess.pgn.TAG_ROSTER))
@@ -393,7 +426,8 @@ class Games(unittest.TestCase):
         file.seek(offsets["c"])
         self.assertEqual(chess.pgn.read_game(file).next().san(), "Kd7")
         file.seek(offsets["a"])
-        self.assertEqual([chess.pgn.skip_game(file), chess.pgn.read_game(file).headers["Event"], chess.pgn.skip_game(file), chess.pgn.skip_game(file)], [True, "b", True, False])
+        with self.assertLogs("chess.pgn", "ERROR"):
+            self.assertEqual([chess.pgn.skip_game(file), chess.pgn.read_game(file).headers["Event"], chess.pgn.skip_game(file), chess.pgn.skip_game(file)], [True, "b", True, False])
 
     def test_a_main_line_is_gone_through_again(self):
         moves = chess.pgn.read_game(io.StringIO(GAMES)).mainline_moves()
@@ -500,6 +534,32 @@ class Games(unittest.TestCase):
                 headers[name] = value
         headers["Variant"] = "Atomic"
         self.assertRaises(NotImplementedError, headers.board)
+        self.assertEqual((headers.is_chess960(), headers.is_wild(), chess.pgn.Headers().variant()), (False, False, chess.Board))
+
+    def test_times(self):
+        kinds = chess.pgn.TimeControlType
+        for text, kind, parts in (
+            ("", kinds.UNKNOWN, []),
+            ("?", kinds.UNKNOWN, []),
+            ("-", kinds.UNLIMITED, []),
+            ("60", kinds.BULLET, [(0, 60, 0, 0)]),
+            ("180+2", kinds.BLITZ, [(0, 180, 2.0, 0)]),
+            ("900+3d", kinds.RAPID, [(0, 900, 0, 3.0)]),
+            ("40/7200:3600+30", kinds.STANDARD, [(40, 7200, 0, 0), (0, 3600, 30.0, 0)]),
+        ):
+            found = chess.pgn.parse_time_control(text)
+            self.assertEqual((found.type, found.parts), (kind, parts), text)
+        for text in ("x", "60:60", "40/", "1+x"):
+            self.assertRaises(ValueError, chess.pgn.parse_time_control, text)
+        game = chess.pgn.Game()
+        game.headers["TimeControl"] = "300"
+        self.assertEqual(game.time_control().type, kinds.BLITZ)
+
+    def test_a_game_that_begins_after_a_node(self):
+        game = chess.pgn.read_game(GAMES)
+        text = game.next().accept_subgame(chess.pgn.StringExporter())
+        again = chess.pgn.read_game(text)
+        self.assertEqual((again.board().epd(), [node.san() for node in again.mainline()], again.headers["White"], len(again.variations)), (played("e4").epd(), ["e5", "Nf3"], 'Anna "A"', 2))
 
 
 class Engines(unittest.TestCase):

@@ -116,7 +116,8 @@ PROGRAMS = [
             def result(self) -> typing.Tuple[int, int]:
                 return self.moves, self.comments
 
-        game = chess.pgn.read_game(open("games.pgn"))
+        with open("games.pgn") as pgn:
+            game = chess.pgn.read_game(pgn)
         assert game is not None
         print(game.accept(CountingVisitor()), game.next().accept(CountingVisitor()))
         """,
@@ -287,10 +288,10 @@ PROGRAMS = [
         import chess.pgn
         import io
 
-        pgn = open("games.pgn")
-        first = chess.pgn.read_game(pgn)
-        chess.pgn.skip_game(pgn)
-        third = chess.pgn.read_game(pgn)
+        with open("games.pgn") as pgn:
+            first = chess.pgn.read_game(pgn)
+            chess.pgn.skip_game(pgn)
+            third = chess.pgn.read_game(pgn)
         exporter = chess.pgn.StringExporter(headers=True, variations=True, comments=False)
         print(third.accept(exporter), end="\\n\\n")
         print(first.mainline_moves(), "|", third.accept(chess.pgn.StringExporter(columns=None, headers=False, variations=False)))
@@ -461,7 +462,8 @@ PROGRAMS = [
                 boards[-1].push_san(san)
             with multiprocessing.get_context("fork").Pool(2) as pool:
                 print(pool.map(evaluate, boards))
-            game = chess.pgn.read_game(open("games.pgn"))
+            with open("games.pgn") as pgn:
+                game = chess.pgn.read_game(pgn)
             again = pickle.loads(pickle.dumps(game))
             print(str(again) == str(game), pickle.loads(pickle.dumps(boards[-1])).move_stack == boards[-1].move_stack)
         """,
@@ -579,7 +581,7 @@ PROGRAMS = [
         engine = chess.engine.SimpleEngine.popen_uci(["./stockfish"], timeout=20)
         print(sorted(engine.options) != [], "name" in engine.id)
         for name, option in engine.options.items():
-            if option.type == "spin" and not option.is_managed():
+            if not option.is_managed() and option.type == "spin":
                 engine.configure({name: option.default})
         try:
             engine.configure({"No such option": 1})
@@ -699,15 +701,14 @@ PROGRAMS = [
         import chess.svg
 
         board = chess.Board("8/8/8/8/4N3/8/8/8 w - - 0 1")
-        squares = board.attacks(chess.E4) if board.is_valid() else chess.SquareSet(chess.BB_DARK_SQUARES & chess.BB_FILE_B)
         picture = chess.svg.board(
             board,
-            fill=dict.fromkeys([chess.E4], "#cc0000cc"),
+            fill=dict.fromkeys(board.attacks(chess.E4), "#cc0000cc"),
             arrows=[chess.svg.Arrow(chess.E4, chess.F6, color="#0000cccc")],
-            squares=squares,
+            squares=chess.SquareSet(chess.BB_DARK_SQUARES & chess.BB_FILE_B),
             size=350,
         )
-        print(picture.startswith("<svg"), picture.count("<line"), picture._repr_svg_() == picture)
+        print(picture.count("#cc0000cc"), picture.startswith("<svg"), picture.count("<line"), picture._repr_svg_() == picture)
         for more in ({"flipped": True}, {"orientation": chess.BLACK}, {"coordinates": False}, {"borders": True}, {"style": ".square { stroke: red }"}, {"colors": {"square light": "#ffffff"}}):
             other = chess.svg.board(chess.Board(), lastmove=chess.Move.from_uci("e2e4"), check=chess.E8, **more)
             print(sorted(more), other.startswith("<svg"), other.count("translate") >= 32)
@@ -716,7 +717,7 @@ PROGRAMS = [
             file.write(chess.svg.board(chess.Board(), size=400))
         """,
         """
-        True 1 True
+        8 True 1 True
         ['flipped'] True True
         ['orientation'] True True
         ['coordinates'] True True

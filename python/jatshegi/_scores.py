@@ -201,6 +201,10 @@ class PlayResult(NamedTuple):
     info: InfoDict
 
 
+#: Options that calls set themselves, in small letters.
+MANAGED_OPTIONS = ["uci_chess960", "uci_variant", "multipv", "ponder"]
+
+
 class Option(NamedTuple):
     """An option of an engine: its type is check, spin, combo, button or string."""
 
@@ -210,6 +214,10 @@ class Option(NamedTuple):
     min: Optional[int] = None
     max: Optional[int] = None
     var: Tuple[str, ...] = ()
+
+    def is_managed(self) -> bool:
+        """Whether calls set the option themselves."""
+        return self.name.lower() in MANAGED_OPTIONS
 
     def text_of(self, value: Union[str, int, bool, None]) -> str:
         """The value as an engine reads it. Raises `ValueError` for another one than the option takes."""
@@ -238,6 +246,8 @@ class Limit(NamedTuple):
     white_inc: Optional[float] = None
     black_inc: Optional[float] = None
     remaining_moves: Optional[int] = None
+    #: What names a clock for engines of another protocol; it changes nothing here.
+    clock_id: object = None
 
     def words(self) -> List[str]:
         """The words of the line `go`. Raises `ValueError` where nothing ends the search, or for a number below 0."""

@@ -94,7 +94,7 @@ class PovWdl:
 
 
 def _refuse(model: str) -> NoReturn:
-    raise NotImplementedError(f"chances of a score are those of the model 'lichess', and an engine's own are info['wdl'] after its option UCI_ShowWDL; there is no model {model!r}")
+    raise NotImplementedError(f"chances of a score are by the model 'lichess', and an engine with the option UCI_ShowWDL says its own in info['wdl']: there is no model {model!r}")
 
 
 def wdl_of(score: Score, model: str) -> Wdl:

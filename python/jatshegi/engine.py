@@ -76,10 +76,6 @@ INFO_NONE, INFO_BASIC, INFO_SCORE, INFO_PV, INFO_REFUTATION, INFO_CURRLINE, INFO
 # The values of options by their names.
 Options = Mapping[str, Union[str, int, bool, None]]
 
-# Options that calls set themselves.
-_OWN = ("multipv", "ponder")
-
-
 class SimpleEngine:
     """An engine that runs as a program of its own. One call at a time uses it; another thread's waits. Use it with `with`, or call `quit` or `close`."""
 
@@ -213,7 +209,7 @@ class SimpleEngine:
         option = next((it for it in self.options.values() if it.name.lower() == name.lower()), None)
         if option is None:
             raise EngineError(f"the engine has no option {name!r}, but {', '.join(self.options) or 'none'}")
-        if name.lower() in _OWN:
+        if option.is_managed():
             raise EngineError(f"the option {name!r} is set by the calls themselves")
         return option.name, "" if option.type == "button" else option.text_of(value)
 

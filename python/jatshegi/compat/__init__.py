@@ -27,10 +27,10 @@ if TYPE_CHECKING:
     from . import engine as engine
 
 
-# (asyncio, which the module of engines needs, takes longer to load than all else)
+# (asyncio, which the module of engines needs, takes longer to load than all else; the others say what is refused)
 def __getattr__(name: str) -> Any:
-    if name == "engine":
-        return importlib.import_module(".engine", __name__)
+    if name in ("engine", "gaviota", "syzygy", "variant"):
+        return importlib.import_module(f".{name}", __name__)
     raise AttributeError(f"module {__name__!r} has no attribute {name!r}")
 
 __all__ = [

@@ -10,18 +10,15 @@ from .._errors import InvalidFenError
 from .._status import Outcome, Termination
 from . import _epd
 from ._fields import IN_CHECK, NO_POSITION, ROOKS, TWO_KINGS, Fields, fields_from, fields_of
-from ._men import BaseBoard, counts, men_of, pawns_on_last_ranks
+from ._men import BaseBoard, counts, pawns_on_last_ranks
 from ._names import (
     BB_ALL,
     BB_SQUARES,
-    BISHOP,
     BLACK,
     COLORS,
     MEN,
     OURS,
     PAWN,
-    QUEEN,
-    ROOK,
     STARTING_FEN,
     WHITE,
     Bitboard,
@@ -32,13 +29,11 @@ from ._names import (
     Square,
     SquareSet,
     Status,
-    between,
     popcount,
-    ray,
     refuse,
-    scan_forward,
 )
 from ._order import LegalMoveGenerator, MoveStack
+from ._placement import men_of
 
 _Of = TypeVar("_Of", bound="Board")
 
@@ -58,6 +53,7 @@ class Board(BaseBoard):
     uci_variant: Optional[str] = "chess"
     xboard_variant: Optional[str] = "normal"
     starting_fen = STARTING_FEN
+    connected_kings, one_king, captures_compulsory = False, True, False
 
     def __init__(self, fen: Optional[str] = STARTING_FEN, *, chess960: bool = False) -> None:
         if chess960:
@@ -446,6 +442,12 @@ class Board(BaseBoard):
         """Raises `NotImplementedError`."""
         refuse("there are no pseudo-legal moves")
 
+    def generate_pseudo_legal_moves(self, from_mask: Bitboard = BB_ALL, to_mask: Bitboard = BB_ALL) -> Iterator[Move]:
+        """Raises `NotImplementedError`."""
+        refuse("there are no pseudo-legal moves")
+
+    generate_pseudo_legal_captures = generate_pseudo_legal_ep = generate_pseudo_legal_moves
+
     def push(self, move: Move) -> None:
         """Makes a legal move, or passes by the null move. Raises `IllegalMoveError`."""
         if move:
@@ -592,31 +594,22 @@ class Board(BaseBoard):
 
     # ---- attacks
 
-    def attacks(self, square: Square) -> SquareSet:
-        """The squares that the piece on the square attacks."""
-        return SquareSet(self._game.attacks(square).mask)
-
     def attacks_mask(self, square: Square) -> Bitboard:
-        """The same as a word."""
-        return self._game.attacks(square).mask
+        """The squares that the piece on the square attacks."""
+        return self._it.attacks(square).mask if self._refusal is None else super().attacks_mask(square)
 
     def attackers_mask(self, color: Color, square: Square, occupied: Optional[Bitboard] = None) -> Bitboard:
         """The squares of the pieces of that colour that attack the square."""
-        if occupied is not None and occupied != self.occupied:
-            refuse("attackers are those of the board's own pieces")
-        return self._game.attackers(color, square).mask
-
-    def attackers(self, color: Color, square: Square, occupied: Optional[Union[int, Iterable[int]]] = None) -> SquareSet:
-        """The same as a set."""
-        return SquareSet(self.attackers_mask(color, square, None if occupied is None else SquareSet(occupied).mask))
-
-    def is_attacked_by(self, color: Color, square: Square, occupied: Optional[Union[int, Iterable[int]]] = None) -> bool:
-        """Whether a piece of that colour attacks the square."""
-        return bool(self.attackers(color, square, occupied))
+        if self._refusal is not None or occupied is not None:
+            return super().attackers_mask(color, square, occupied)
+        return self._it.attackers(color, square).mask
 
     def checkers_mask(self) -> Bitboard:
         """The squares of the pieces that give check."""
-        return self._game._checks()
+        if self._refusal is None:
+            return self._it._checks()
+        king = self.king(self.turn)
+        return 0 if king is None else self.attackers_mask(not self.turn, king)
 
     def checkers(self) -> SquareSet:
         """The same as a set."""
@@ -624,29 +617,11 @@ class Board(BaseBoard):
 
     def is_check(self) -> bool:
         """Whether the side to move is in check."""
-        return self._game.is_check()
+        return self._it.is_check() if self._refusal is None else bool(self.checkers_mask())
 
     def was_into_check(self) -> bool:
         """Whether the side not to move is in check, which no position has."""
         return self._refusal is not None and self._refusal.fault == IN_CHECK
-
-    def pin_mask(self, color: Color, square: Square) -> Bitboard:
-        """The line to the king on which the square is pinned; all squares if it isn't. The library says which rooks, bishops and queens attack the square."""
-        king, square = self._game.king(color), square_of(square)
-        if between(king, square) & self.occupied:
-            return BB_ALL
-        line = ray(king, square)
-        sliders = (self.pieces_mask(kind, not color) for kind in (BISHOP, ROOK, QUEEN))
-        attacking = self.attackers_mask(not color, square) & line & sum(sliders)
-        return line if any(between(king, it) >> square & 1 for it in scan_forward(attacking)) else BB_ALL
-
-    def pin(self, color: Color, square: Square) -> SquareSet:
-        """The same as a set."""
-        return SquareSet(self.pin_mask(color, square))
-
-    def is_pinned(self, color: Color, square: Square) -> bool:
-        """Whether the square is pinned to that side's king."""
-        return self.pin_mask(color, square) != BB_ALL
 
     # ---- how the game ends
 
@@ -685,10 +660,11 @@ class Board(BaseBoard):
         if found is None or found.winner is not None:
             return found
         # (python-chess asks in this order, if several hold)
-        for holds, why in ((self.is_insufficient_material, Termination.INSUFFICIENT_MATERIAL), (self.is_stalemate, Termination.STALEMATE), (self.is_seventyfive_moves, Termination.SEVENTYFIVE_MOVES)):
-            if holds():
-                return Outcome(why, None)
-        return found
+        if self.is_insufficient_material():
+            return Outcome(Termination.INSUFFICIENT_MATERIAL, None)
+        if self.is_stalemate():
+            return Outcome(Termination.STALEMATE, None)
+        return Outcome(Termination.SEVENTYFIVE_MOVES, None) if self.is_seventyfive_moves() else found
 
     # The end by a position that has come up before the last null move, too.
     def _repeated(self, claim_draw: bool) -> Optional[Outcome]:

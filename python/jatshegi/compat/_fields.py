@@ -4,8 +4,8 @@ from __future__ import annotations
 from typing import Dict, NamedTuple, Optional
 
 from .. import _board
-from ._men import field_of, men_of
 from ._names import SQUARE_NAMES, WHITE, Color, Piece, Square
+from ._placement import field_of, men_of
 
 __all__ = ["IN_CHECK", "NO_POSITION", "ROOKS", "TWO_KINGS", "Fields", "fields_from", "fields_of"]
 

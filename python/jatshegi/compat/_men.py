@@ -1,11 +1,11 @@
 """Pieces on squares, which need be no position of a game."""
 from __future__ import annotations
 
-import re
 from typing import Any, Callable, Dict, Mapping, Optional, Tuple, Type, TypeVar
 
 from .. import svg as _svg
-from .._checks import colour_of, square_of, text_of
+from .._checks import colour_of, square_of
+from ._aside import attackers_among, attacks_among
 from ._names import (
     BB_ALL,
     BB_RANKS,
@@ -14,7 +14,6 @@ from ._names import (
     BLACK,
     KING,
     KNIGHT,
-    MEN,
     PAWN,
     QUEEN,
     ROOK,
@@ -22,39 +21,23 @@ from ._names import (
     WHITE,
     Bitboard,
     Color,
+    IntoSquareSet,
     Piece,
     PieceType,
     Square,
     SquareSet,
+    between,
+    ray,
     refuse,
     scan_forward,
 )
+from ._placement import field_of, men_of
 
 _Base = TypeVar("_Base", bound="BaseBoard")
 
 
-def men_of(fen: str) -> Dict[Square, Piece]:
-    """The pieces of the first field of a FEN. Raises `ValueError`."""
-    men: Dict[Square, Piece] = {}
-    ranks = text_of(fen, "the position part of a FEN is a text").strip().split("/")
-    for rank, text in zip(range(7, -1, -1), ranks):
-        squares = re.sub("[1-8]", lambda empty: "." * int(empty[0]), text)
-        if len(squares) != 8 or len(ranks) != 8 or re.search("[1-8]{2}|[^1-8PNBRQKpnbrqk]", text):
-            raise ValueError(f"expected 8 ranks of 8 squares in the position part of a FEN: {fen!r}")
-        men.update({8 * rank + file: MEN[ord(letter)] for file, letter in enumerate(squares) if letter != "."})
-    if len(ranks) != 8:
-        raise ValueError(f"expected 8 ranks in the position part of a FEN: {fen!r}")
-    return men
-
-
-def field_of(men: Mapping[Square, Piece]) -> str:
-    """The first field of a FEN with these pieces."""
-    ranks = ("".join(men[8 * rank + file].symbol() if 8 * rank + file in men else "1" for file in range(8)) for rank in range(7, -1, -1))
-    return re.sub("1+", lambda empty: str(len(empty[0])), "/".join(ranks))
-
-
 class BaseBoard:
-    """Pieces on 64 squares, as an editor or a picture has them. It has no side to move and no rules: a `Board` has, and asks the library."""
+    """Pieces on 64 squares, as an editor or a picture has them. It has no side to move and no game: a `Board` has."""
 
     def __init__(self, board_fen: Optional[str] = STARTING_BOARD_FEN) -> None:
         self._placed: Dict[Square, Piece] = {} if board_fen is None else men_of(board_fen)
@@ -159,6 +142,50 @@ class BaseBoard:
         kings = list(scan_forward(self.pieces_mask(KING, color)))
         return kings[0] if len(kings) == 1 else None
 
+    # ---- attacks
+
+    def attacks_mask(self, square: Square) -> Bitboard:
+        """The squares that the piece on the square attacks."""
+        return attacks_among(self._men_now(), square_of(square))
+
+    def attacks(self, square: Square) -> SquareSet:
+        """The same as a set."""
+        return SquareSet(self.attacks_mask(square))
+
+    def attackers_mask(self, color: Color, square: Square, occupied: Optional[Bitboard] = None) -> Bitboard:
+        """The squares of the pieces of that colour that attack the square."""
+        if occupied is not None and occupied != self.occupied:
+            refuse("attackers are those of the board's own pieces")
+        return attackers_among(self._men_now(), colour_of(color), square_of(square))
+
+    def attackers(self, color: Color, square: Square, occupied: Optional[IntoSquareSet] = None) -> SquareSet:
+        """The same as a set."""
+        return SquareSet(self.attackers_mask(color, square, None if occupied is None else SquareSet(occupied).mask))
+
+    def is_attacked_by(self, color: Color, square: Square, occupied: Optional[IntoSquareSet] = None) -> bool:
+        """Whether a piece of that colour attacks the square."""
+        return bool(self.attackers(color, square, occupied))
+
+    def pin_mask(self, color: Color, square: Square) -> Bitboard:
+        """The line to the king on which the square is pinned; all squares if it isn't. The library says which rooks, bishops and queens attack the square."""
+        king, square = self.king(color), square_of(square)
+        if king is None or between(king, square) & self.occupied:
+            return BB_ALL
+        line = ray(king, square)
+        sliders = sum(self.pieces_mask(kind, not color) for kind in (BISHOP, ROOK, QUEEN))
+        attacking = self.attackers_mask(not color, square) & line & sliders
+        return line if any(between(king, it) >> square & 1 for it in scan_forward(attacking)) else BB_ALL
+
+    def pin(self, color: Color, square: Square) -> SquareSet:
+        """The same as a set."""
+        return SquareSet(self.pin_mask(color, square))
+
+    def is_pinned(self, color: Color, square: Square) -> bool:
+        """Whether the square is pinned to that side's king."""
+        return self.pin_mask(color, square) != BB_ALL
+
+    # ---- edits
+
     def remove_piece_at(self, square: Square) -> Optional[Piece]:
         """The piece on the square, which is taken off; None if there is none."""
         men = dict(self._men_now())
@@ -192,6 +219,11 @@ class BaseBoard:
     def set_board_fen(self, fen: str) -> None:
         """Puts the pieces of the first field of a FEN. Raises `ValueError`."""
         self._place(men_of(fen))
+
+    @classmethod
+    def from_chess960_pos(cls: Type[_Base], scharnagl: int) -> _Base:
+        """Raises `NotImplementedError`."""
+        refuse("there is no Chess960")
 
     def set_chess960_pos(self, scharnagl: int) -> None:
         """Raises `NotImplementedError`."""

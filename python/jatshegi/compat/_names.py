@@ -2,7 +2,7 @@
 from __future__ import annotations
 
 import enum
-from typing import Callable, Dict, Iterable, Iterator, List, NoReturn, Optional, Tuple, Union
+from typing import Callable, Dict, Iterable, Iterator, List, Literal, NoReturn, Optional, Tuple, Union
 
 from .. import _moves, _pieces, _sets
 from .._checks import square_of, whole
@@ -106,6 +106,7 @@ __all__ = [
     "COLORS",
     "COLOR_NAMES",
     "Color",
+    "EnPassantSpec",
     "FILE_NAMES",
     "IntoSquareSet",
     "KING",
@@ -161,10 +162,18 @@ __all__ = [
     "ray",
     "scan_forward",
     "scan_reversed",
+    "shift_2_down",
+    "shift_2_left",
+    "shift_2_right",
+    "shift_2_up",
     "shift_down",
+    "shift_down_left",
+    "shift_down_right",
     "shift_left",
     "shift_right",
     "shift_up",
+    "shift_up_left",
+    "shift_up_right",
     "square_distance",
     "square_knight_distance",
     "square_manhattan_distance",
@@ -175,6 +184,7 @@ Color = bool
 PieceType = int
 Square = int
 Bitboard = int
+EnPassantSpec = Literal["legal", "fen", "xfen"]
 
 COLORS: List[Color] = [WHITE, BLACK]
 COLOR_NAMES = ["black", "white"]
@@ -361,6 +371,46 @@ def shift_right(b: Bitboard) -> Bitboard:
 def shift_left(b: Bitboard) -> Bitboard:
     """Each bit one file to the left."""
     return b >> 1 & ~BB_FILE_H
+
+
+def shift_2_down(b: Bitboard) -> Bitboard:
+    """Each bit two ranks down."""
+    return b >> 16
+
+
+def shift_2_up(b: Bitboard) -> Bitboard:
+    """Each bit two ranks up."""
+    return b << 16 & BB_ALL
+
+
+def shift_2_right(b: Bitboard) -> Bitboard:
+    """Each bit two files to the right."""
+    return shift_right(shift_right(b))
+
+
+def shift_2_left(b: Bitboard) -> Bitboard:
+    """Each bit two files to the left."""
+    return shift_left(shift_left(b))
+
+
+def shift_up_left(b: Bitboard) -> Bitboard:
+    """Each bit one rank up and one file to the left."""
+    return shift_left(shift_up(b))
+
+
+def shift_up_right(b: Bitboard) -> Bitboard:
+    """Each bit one rank up and one file to the right."""
+    return shift_right(shift_up(b))
+
+
+def shift_down_left(b: Bitboard) -> Bitboard:
+    """Each bit one rank down and one file to the left."""
+    return shift_left(shift_down(b))
+
+
+def shift_down_right(b: Bitboard) -> Bitboard:
+    """Each bit one rank down and one file to the right."""
+    return shift_right(shift_down(b))
 
 
 def _step(a: Square, b: Square) -> Optional[Tuple[int, int]]:

@@ -7,7 +7,7 @@ from functools import partial
 from typing import Any, Dict, Iterable, Iterator, List, Mapping, NamedTuple, Optional, Sequence, Tuple, Type, Union, overload
 
 from .. import engine as _engine
-from .._scores import parts_of
+from .._scores import MANAGED_OPTIONS, MateGivenType, parts_of
 from ..engine import (
     INFO_ALL,
     INFO_BASIC,
@@ -31,7 +31,7 @@ from ..engine import (
     Wdl,
 )
 from ._boards import Board
-from ._names import OURS, Move
+from ._names import OURS, Color, Move
 
 __all__ = [
     "INFO_ALL",
@@ -50,8 +50,13 @@ __all__ = [
     "Info",
     "InfoDict",
     "Limit",
+    "EngineProtocol",
+    "EventLoopPolicy",
+    "MANAGED_OPTIONS",
     "Mate",
     "MateGiven",
+    "MateGivenType",
+    "Opponent",
     "Option",
     "PlayResult",
     "PovScore",
@@ -62,6 +67,7 @@ __all__ = [
     "UciProtocol",
     "Wdl",
     "popen_uci",
+    "popen_xboard",
 ]
 
 _Command = Union[str, List[str], Sequence[str]]
@@ -80,6 +86,20 @@ class PlayResult(NamedTuple):
     info: InfoDict
     draw_offered: bool = False
     resigned: bool = False
+
+
+class Opponent(NamedTuple):
+    """Who plays against an engine."""
+
+    name: Optional[str]
+    title: Optional[str] = None
+    rating: Optional[int] = None
+    is_engine: Optional[bool] = None
+
+    def text(self) -> str:
+        """The value of the option UCI_Opponent."""
+        kind = "none" if self.is_engine is None else "computer" if self.is_engine else "human"
+        return f"{self.title or 'none'} {'none' if self.rating is None else self.rating} {kind} {self.name or ''}".rstrip()
 
 
 class BestMove(NamedTuple):
@@ -196,6 +216,24 @@ class SimpleEngine(_engine.SimpleEngine):
     def __enter__(self) -> SimpleEngine:
         return self
 
+    @property
+    def transport(self) -> Transport:
+        """The engine's program."""
+        return Transport(self)
+
+    @property
+    def protocol(self) -> UciProtocol:
+        """The same engine for `await`."""
+        return UciProtocol(self)
+
+    def send_opponent_information(self, *, opponent: Optional[Opponent] = None, engine_rating: Optional[int] = None) -> None:
+        """Tells the engine who plays against it, if it has the option UCI_Opponent."""
+        if opponent is not None and "UCI_Opponent" in self.options:
+            self.configure({"UCI_Opponent": opponent.text()})
+
+    def send_game_result(self, board: Board, winner: Optional[Color] = None, game_ending: Optional[str] = None, game_complete: bool = True) -> None:
+        """Does nothing: no line of UCI says a result."""
+
     # Has a search end, also while another thread waits for its next line, and has the lock.
     def _interrupt(self) -> None:
         try:
@@ -223,9 +261,10 @@ class SimpleEngine(_engine.SimpleEngine):
         draw_offered: bool = False,
         root_moves: Optional[Iterable[Move]] = None,
         options: _Options = {},
-        opponent: object = None,
+        opponent: Optional[Opponent] = None,
     ) -> PlayResult:
         """The move that the engine plays. Raises `EngineError` for a move that isn't legal."""
+        self.send_opponent_information(opponent=opponent)
         found = super().play(board._game, limit, game=game, info=info, ponder=ponder, root_moves=root_moves, options=options)
         move, awaited = (None if it is None else OURS[it] for it in (found.move, found.ponder))
         return PlayResult(move, awaited, _ours(found.info))
@@ -362,6 +401,13 @@ class UciProtocol:
         """What the engine says while it searches, as `SimpleEngine.analysis`."""
         return AnalysisResult(await asyncio.to_thread(partial(self._engine.analysis, board, limit, **words)))
 
+    async def send_opponent_information(self, *, opponent: Optional[Opponent] = None, engine_rating: Optional[int] = None) -> None:
+        """Tells the engine who plays against it, if it has the option UCI_Opponent."""
+        await asyncio.to_thread(partial(self._engine.send_opponent_information, opponent=opponent))
+
+    async def send_game_result(self, board: Board, winner: Optional[Color] = None, game_ending: Optional[str] = None, game_complete: bool = True) -> None:
+        """Does nothing: no line of UCI says a result."""
+
     async def configure(self, options: _Options) -> None:
         """Sets options."""
         await asyncio.to_thread(self._engine.configure, options)
@@ -373,6 +419,9 @@ class UciProtocol:
     async def quit(self) -> None:
         """Has the engine end."""
         await asyncio.to_thread(self._engine.quit)
+
+
+EngineProtocol = Protocol = UciProtocol
 
 
 class Transport:
@@ -398,3 +447,13 @@ async def popen_uci(command: _Command, *, setpgrp: bool = False, **popen_args: A
     """Starts an engine that speaks UCI, for `await`."""
     engine = await asyncio.to_thread(partial(SimpleEngine.popen_uci, command, setpgrp=setpgrp, **popen_args))
     return Transport(engine), UciProtocol(engine)
+
+
+async def popen_xboard(command: _Command, **words: Any) -> Tuple[Transport, UciProtocol]:
+    """Raises `NotImplementedError`."""
+    raise NotImplementedError("engines speak UCI here, not XBoard's protocol")
+
+
+def EventLoopPolicy() -> asyncio.AbstractEventLoopPolicy:
+    """The policy that asyncio has, with which engines run here."""
+    return asyncio.get_event_loop_policy()

@@ -1,6 +1,7 @@
 """Games, by the names of python-chess's module `pgn`. The library reads them; a tree is the program's own, and is written through the library's moves."""
 from __future__ import annotations
 
+import logging
 import re
 from typing import (
     IO,
@@ -28,73 +29,52 @@ from .. import _board, _moves
 from .. import pgn as _pgn
 from .._scores import Cp, Mate, PovScore
 from .._visitors import SKIP, SkipType
+from . import _nags
 from ._boards import Board
-from ._names import OURS, STARTING_FEN, Color, Move, Square
+from ._nags import *
+from ._names import OURS, STARTING_FEN, Color, Move, Square, refuse
+from ._times import TimeControl, TimeControlPart, TimeControlType, parse_time_control
+from ._visitors import BaseVisitor, BoardBuilder, FileExporter, FileExporterMixin, SkipVisitor, StringExporter, StringExporterMixin
 from .svg import Arrow
 
 __all__ = [
-    "SKIP",
-    "TAG_ROSTER",
     "BaseVisitor",
     "BoardBuilder",
     "ChildNode",
     "FileExporter",
+    "FileExporterMixin",
     "Game",
     "GameBuilder",
     "GameNode",
     "Headers",
     "HeadersBuilder",
+    "LOGGER",
     "Mainline",
-    "NAG_BLACK_DECISIVE_ADVANTAGE",
-    "NAG_BLACK_DECISIVE_COUNTERPLAY",
-    "NAG_BLACK_MODERATE_ADVANTAGE",
-    "NAG_BLACK_MODERATE_COUNTERPLAY",
-    "NAG_BLACK_MODERATE_TIME_PRESSURE",
-    "NAG_BLACK_SEVERE_TIME_PRESSURE",
-    "NAG_BLACK_SLIGHT_ADVANTAGE",
-    "NAG_BLACK_ZUGZWANG",
-    "NAG_BLUNDER",
-    "NAG_BRILLIANT_MOVE",
-    "NAG_DRAWISH_POSITION",
-    "NAG_DUBIOUS_MOVE",
-    "NAG_FORCED_MOVE",
-    "NAG_GOOD_MOVE",
-    "NAG_MISTAKE",
-    "NAG_NOVELTY",
-    "NAG_NULL",
-    "NAG_QUIET_POSITION",
-    "NAG_ACTIVE_POSITION",
-    "NAG_SINGULAR_MOVE",
-    "NAG_SPECULATIVE_MOVE",
-    "NAG_UNCLEAR_POSITION",
-    "NAG_WHITE_DECISIVE_ADVANTAGE",
-    "NAG_WHITE_DECISIVE_COUNTERPLAY",
-    "NAG_WHITE_MODERATE_ADVANTAGE",
-    "NAG_WHITE_MODERATE_COUNTERPLAY",
-    "NAG_WHITE_MODERATE_TIME_PRESSURE",
-    "NAG_WHITE_SEVERE_TIME_PRESSURE",
-    "NAG_WHITE_SLIGHT_ADVANTAGE",
-    "NAG_WHITE_ZUGZWANG",
-    "NAG_WORST_MOVE",
+    "SKIP",
     "SkipType",
+    "SkipVisitor",
     "StringExporter",
+    "StringExporterMixin",
+    "TAG_ROSTER",
+    "TimeControl",
+    "TimeControlPart",
+    "TimeControlType",
+    "parse_time_control",
     "read_game",
     "read_headers",
     "skip_game",
 ]
+__all__ += _nags.__all__
 
 _T = TypeVar("_T")
 
-NAG_NULL, NAG_GOOD_MOVE, NAG_MISTAKE, NAG_BRILLIANT_MOVE, NAG_BLUNDER, NAG_SPECULATIVE_MOVE, NAG_DUBIOUS_MOVE = range(7)
-NAG_FORCED_MOVE, NAG_SINGULAR_MOVE, NAG_WORST_MOVE, NAG_DRAWISH_POSITION, NAG_QUIET_POSITION, NAG_ACTIVE_POSITION, NAG_UNCLEAR_POSITION = range(7, 14)
-NAG_WHITE_SLIGHT_ADVANTAGE, NAG_BLACK_SLIGHT_ADVANTAGE, NAG_WHITE_MODERATE_ADVANTAGE, NAG_BLACK_MODERATE_ADVANTAGE = range(14, 18)
-NAG_WHITE_DECISIVE_ADVANTAGE, NAG_BLACK_DECISIVE_ADVANTAGE, NAG_WHITE_ZUGZWANG, NAG_BLACK_ZUGZWANG = 18, 19, 22, 23
-NAG_WHITE_MODERATE_COUNTERPLAY, NAG_BLACK_MODERATE_COUNTERPLAY, NAG_WHITE_DECISIVE_COUNTERPLAY, NAG_BLACK_DECISIVE_COUNTERPLAY = range(132, 136)
-NAG_WHITE_MODERATE_TIME_PRESSURE, NAG_BLACK_MODERATE_TIME_PRESSURE, NAG_WHITE_SEVERE_TIME_PRESSURE, NAG_BLACK_SEVERE_TIME_PRESSURE = range(136, 140)
-NAG_NOVELTY = 146
+# (the name that programs for python-chess give to `logging`)
+LOGGER = logging.getLogger("chess.pgn")
 
 TAG_ROSTER = ["Event", "Site", "Date", "Round", "White", "Black", "Result"]
 _UNKNOWN = {"Date": "????.??.??", "Result": "*"}
+# The wild games of other programs, which begin in other positions.
+_WILD = ("wild/0", "wild/1", "wild/2", "wild/3", "wild/4", "wild/5", "wild/6", "wild/7", "wild/8", "wild/8a")
 # The repairs of a game by which moves of it are left out.
 _CUTS = ("Null", "Illegal", "Unreadable", "Variation", "Fen", "Squares")
 
@@ -368,6 +348,22 @@ class GameNode:
         """Has the visitor see the node and all that follows. Each kind of node has its own."""
         raise NotImplementedError("a node is a Game or a ChildNode")
 
+    def accept_subgame(self, visitor: BaseVisitor[_T]) -> _T:
+        """Has the visitor see a game that begins after the node: its tags, and all that follows."""
+        if visitor.begin_game() is not SKIP:
+            game, board, begin = self.game(), self.board(), Game.without_tag_roster()
+            begin.setup(board)
+            visitor.begin_headers()
+            for name, value in {**{name: value for name, value in game.headers.items() if name not in begin.headers}, **begin.headers}.items():
+                visitor.visit_header(name, value)
+            if visitor.end_headers() is not SKIP:
+                visitor.visit_board(board)
+                if self.variations:
+                    _walk(self.variations[0], board, visitor)
+                visitor.visit_result(game.headers.get("Result", "*"))
+        visitor.end_game()
+        return visitor.result()
+
     def __str__(self) -> str:
         return self.accept(StringExporter(columns=None))
 
@@ -409,11 +405,28 @@ class Headers(MutableMapping[str, str]):
             self._tags = {name: _UNKNOWN.get(name, "?") for name in TAG_ROSTER}
         self.update({} if data is None else data, **kwargs)
 
+    @classmethod
+    def builder(cls) -> HeadersBuilder:
+        """What makes such tags of visits."""
+        return HeadersBuilder(Headers=cls)
+
+    def is_chess960(self) -> bool:
+        """Whether the tags name Chess960, whose games are refused."""
+        return self.get("Variant", "").lower() in ("chess960", "chess 960", "fischerandom", "fischerrandom", "fischer random")
+
+    def is_wild(self) -> bool:
+        """Whether the tags name a wild game, which is refused."""
+        return self.get("Variant", "").lower() in _WILD
+
+    def variant(self) -> Type[Board]:
+        """The class of the game's boards. Raises `NotImplementedError` for a variant."""
+        if self.get("Variant", "Standard").lower() not in ("standard", "chess", "normal", "classical", "from position"):
+            refuse(f"there are no variants, as {self['Variant']!r}")
+        return Board
+
     def board(self) -> Board:
         """The position in which the game begins. Raises `NotImplementedError` for a variant."""
-        if self.get("Variant", "Standard").lower() not in ("standard", "chess", "normal", "classical", "from position"):
-            raise NotImplementedError(f"there are no variants: {self['Variant']!r}")
-        return Board(self.get("FEN", STARTING_FEN))
+        return self.variant()(self.get("FEN", STARTING_FEN))
 
     def __setitem__(self, key: str, value: str) -> None:
         if not re.fullmatch(r"[A-Za-z0-9][A-Za-z0-9_+#=:-]*", key):
@@ -476,6 +489,10 @@ class Game(GameNode):
     def board(self) -> Board:
         """The position in which the game begins."""
         return self.headers.board()
+
+    def time_control(self) -> TimeControl:
+        """What the tag TimeControl says. Raises `ValueError`."""
+        return parse_time_control(self.headers.get("TimeControl", ""))
 
     def setup(self, board: Union[Board, str]) -> None:
         """Has the game begin in a position; its tags say so."""
@@ -545,58 +562,6 @@ def _show(node: ChildNode, board: Board, visitor: BaseVisitor[_T]) -> None:
         visitor.visit_comment(node.comment)
 
 
-class BaseVisitor(Generic[_T]):
-    """Sees a game from its tags to its result."""
-
-    def begin_game(self) -> Optional[SkipType]:
-        """A game begins. It is passed over if this returns `SKIP`."""
-        return None
-
-    def begin_headers(self) -> Optional[Headers]:
-        """The tags begin."""
-        return None
-
-    def visit_header(self, tagname: str, tagvalue: str) -> None:
-        """A tag."""
-
-    def end_headers(self) -> Optional[SkipType]:
-        """The tags have ended. The moves are passed over if this returns `SKIP`."""
-        return None
-
-    def visit_board(self, board: Board) -> None:
-        """The position in which the game begins, or after a move."""
-
-    def visit_move(self, board: Board, move: Move) -> None:
-        """A move, and the board before it."""
-
-    def visit_comment(self, comment: str) -> None:
-        """A comment."""
-
-    def visit_nag(self, nag: int) -> None:
-        """An annotation of the move before."""
-
-    def begin_variation(self) -> Optional[SkipType]:
-        """A variation begins. It is passed over if this returns `SKIP`."""
-        return None
-
-    def end_variation(self) -> None:
-        """The variation has ended."""
-
-    def visit_result(self, result: str) -> None:
-        """The result."""
-
-    def end_game(self) -> None:
-        """The game has ended."""
-
-    def result(self) -> _T:
-        """What the visitor has made."""
-        raise NotImplementedError("a visitor has a result")
-
-    def handle_error(self, error: Exception) -> None:
-        """The text of the game couldn't be read as it is: moves are left out. Raises it here."""
-        raise error
-
-
 class GameBuilder(BaseVisitor[Game]):
     """Makes a game."""
 
@@ -645,6 +610,7 @@ class GameBuilder(BaseVisitor[Game]):
             self.game.headers["Result"] = result
 
     def handle_error(self, error: Exception) -> None:
+        LOGGER.error("%s, in %r", error, self.game)
         self.game.errors.append(error)
 
     def result(self) -> Game:
@@ -654,8 +620,11 @@ class GameBuilder(BaseVisitor[Game]):
 class HeadersBuilder(BaseVisitor[Headers]):
     """Makes the tags of a game."""
 
+    def __init__(self, *, Headers: Type[Headers] = Headers) -> None:
+        self.Headers = Headers
+
     def begin_game(self) -> Optional[SkipType]:
-        self.headers = Headers({})
+        self.headers = self.Headers({})
         return None
 
     def visit_header(self, tagname: str, tagvalue: str) -> None:
@@ -669,142 +638,6 @@ class HeadersBuilder(BaseVisitor[Headers]):
 
     def result(self) -> Headers:
         return self.headers
-
-
-class BoardBuilder(BaseVisitor[Board]):
-    """Makes the board at the end of the main line."""
-
-    def begin_variation(self) -> Optional[SkipType]:
-        return SKIP
-
-    def visit_board(self, board: Board) -> None:
-        self.board = board.copy()
-
-    def result(self) -> Board:
-        return self.board
-
-
-class _SkipVisitor(BaseVisitor[bool]):
-    """Passes a game over."""
-
-    def begin_game(self) -> Optional[SkipType]:
-        return SKIP
-
-    def handle_error(self, error: Exception) -> None:
-        """Nothing is read of the game."""
-
-    def result(self) -> bool:
-        return True
-
-
-class _Exporter:
-    """Writes what is visited as text, in lines of at most `columns` characters unless a comment is longer."""
-
-    def __init__(self, *, columns: Optional[int] = 80, headers: bool = True, comments: bool = True, variations: bool = True) -> None:
-        self.columns, self.headers, self.comments, self.variations = columns, headers, comments, variations
-        self.lines: List[str] = []
-        self.current_line = ""
-        self.variation_depth = 0
-        self.found_headers, self.force_movenumber = False, True
-
-    def flush_current_line(self) -> None:
-        """Ends the line, if it has something."""
-        if self.current_line:
-            self.lines.append(self.current_line.rstrip())
-        self.current_line = ""
-
-    def write_token(self, token: str) -> None:
-        """A word, on the next line if this one has no room."""
-        if self.columns is not None and self.columns - len(self.current_line) < len(token):
-            self.flush_current_line()
-        self.current_line += token
-
-    def write_line(self, line: str = "") -> None:
-        """A line of its own."""
-        self.flush_current_line()
-        self.lines.append(line.rstrip())
-
-    def visit_header(self, tagname: str, tagvalue: str) -> None:
-        if self.headers:
-            self.found_headers = True
-            value = tagvalue.replace("\\", "\\\\").replace('"', '\\"')
-            self.write_line(f'[{tagname} "{value}"]')
-
-    def end_headers(self) -> Optional[SkipType]:
-        if self.found_headers:
-            self.write_line()
-        return None
-
-    def _is_written(self) -> bool:
-        return self.variations or not self.variation_depth
-
-    def visit_move(self, board: Board, move: Move) -> None:
-        if self._is_written():
-            if board.turn or self.force_movenumber:
-                self.write_token(f"{board.fullmove_number}{'.' if board.turn else '...'} ")
-            self.write_token(f"{board.san(move)} ")
-            self.force_movenumber = False
-
-    def visit_comment(self, comment: str) -> None:
-        if "}" in comment:
-            raise ValueError(f"a comment has no right brace, which would end it: {comment!r}")
-        if self.comments and self._is_written():
-            self.write_token(f"{{ {comment.strip()} }} ")
-            self.force_movenumber = True
-
-    def visit_nag(self, nag: int) -> None:
-        if self.comments and self._is_written():
-            self.write_token(f"${nag} ")
-
-    def begin_variation(self) -> Optional[SkipType]:
-        self.variation_depth += 1
-        if not self.variations:
-            return SKIP
-        self.write_token("( ")
-        self.force_movenumber = True
-        return None
-
-    def end_variation(self) -> None:
-        self.variation_depth -= 1
-        if self.variations:
-            self.write_token(") ")
-            self.force_movenumber = True
-
-    def visit_result(self, result: str) -> None:
-        self.write_token(f"{result} ")
-
-    def end_game(self) -> None:
-        self.write_line()
-
-
-class StringExporter(_Exporter, BaseVisitor[str]):
-    """Makes the text of a game."""
-
-    def result(self) -> str:
-        return "\n".join([*self.lines, self.current_line.rstrip()] if self.current_line else self.lines).rstrip()
-
-    def __str__(self) -> str:
-        return self.result()
-
-
-class FileExporter(_Exporter, BaseVisitor[int]):
-    """Writes games into a file, each with an empty line after it; the result is how many characters the last one had."""
-
-    def __init__(self, handle: TextIO, *, columns: Optional[int] = 80, headers: bool = True, comments: bool = True, variations: bool = True) -> None:
-        super().__init__(columns=columns, headers=headers, comments=comments, variations=variations)
-        self.handle, self.written = handle, 0
-
-    def begin_game(self) -> Optional[SkipType]:
-        self.lines, self.current_line, self.variation_depth, self.written = [], "", 0, 0
-        self.found_headers, self.force_movenumber = False, True
-        return None
-
-    def end_game(self) -> None:
-        super().end_game()
-        self.written = self.handle.write("".join(f"{line}\n" for line in self.lines))
-
-    def result(self) -> int:
-        return self.written
 
 
 class _Passing(_pgn.BaseVisitor[_T]):
@@ -886,5 +719,5 @@ def read_headers(handle: Union[TextIO, IO[Any], str]) -> Optional[Headers]:
 
 def skip_game(handle: Union[TextIO, IO[Any], str]) -> bool:
     """Passes the next game over; False at the end."""
-    found = read_game(handle, Visitor=_SkipVisitor)
+    found = read_game(handle, Visitor=SkipVisitor)
     return found is not None
