@@ -307,11 +307,12 @@ class Boards(unittest.TestCase):
         self.assertEqual((men.attackers(chess.WHITE, chess.D4), men.attackers_mask(chess.BLACK, chess.C5)), ({chess.B4, chess.H4}, chess.BB_D6))
         pinned = chess.BaseBoard("8/8/8/8/4r3/8/4N3/4K3")
         self.assertEqual((pinned.is_pinned(chess.WHITE, chess.E2), pinned.pin(chess.WHITE, chess.E2), men.is_pinned(chess.WHITE, chess.B4)), (True, chess.BB_FILE_E, False))
-        full = chess.Board()
-        pieces = chess.BaseBoard()
-        for square in chess.SQUARES:
-            self.assertEqual((pieces.attacks(square), pieces.attackers(chess.WHITE, square)), (full.attacks(square), full.attackers(chess.WHITE, square)))
-        for call in (lambda: chess.BaseBoard("8/8/8/8/8/8/8/KK5R").attacks(chess.H1), lambda: chess.BaseBoard("P7/8/8/8/8/8/8/R7").attacks(chess.A1)):
+        for fen in ("r3k2r/p1ppqpb1/bn2pnp1/3PN3/1p2P3/2N2Q1p/PPPB1PP1/R3K2R w KQkq - 0 1", "8/2p5/3p4/KP5r/1R3p1k/8/4P1P1/8 w - - 0 1", "q3k3/8/8/3Q4/8/2B5/8/4K2R b - - 0 1"):
+            full, pieces = chess.Board(fen), chess.BaseBoard(fen.split()[0])
+            for square in chess.SQUARES:
+                self.assertEqual((pieces.attacks(square), *(pieces.attackers(color, square) for color in chess.COLORS)), (full.attacks(square), *(full.attackers(color, square) for color in chess.COLORS)))
+        self.assertEqual((len(chess.BaseBoard("8/8/8/8/8/8/8/KK5R").attacks(chess.H1)), chess.BaseBoard("P7/8/8/8/8/8/8/K6K").attacks(chess.A1)), (13, {chess.B1, chess.A2, chess.B2}))
+        for call in (lambda: chess.BaseBoard("P7/8/8/8/8/8/8/R7").attacks(chess.A8), lambda: chess.BaseBoard("rrrrrrrr/rrrrrrrr/rrrrrrrr/rrrrrrrr/r7/8/8/8").attacks(chess.A4)):
             with self.assertRaisesRegex(ValueError, "no position"):
                 call()
         self.assertRaises(NotImplementedError, men.attackers, chess.WHITE, chess.D4, chess.BB_ALL)

@@ -1,39 +1,57 @@
-"""Attacks of pieces that are no position, as a knight alone: the library is asked of a position that has kings besides, which are in no piece's way."""
+"""Attacks of pieces that are no position, for example of a knight alone.
+
+An attack depends on the piece and on the occupied squares. So the library is asked about a position in which the other pieces are knights, and in which kings
+stand out of the way."""
 from __future__ import annotations
 
 from itertools import permutations
-from typing import Iterator, Mapping, Tuple
+from typing import Dict, Iterator, List, Mapping, Tuple
 
 from .. import _board
 from .._errors import InvalidFenError
-from ._names import BB_SQUARES, COLORS, KING, SQUARES, Bitboard, Color, Piece, Square
+from ._names import BB_SQUARES, COLORS, KING, KNIGHT, SQUARES, Bitboard, Color, Piece, Square
 from ._placement import field_of
 
 __all__ = ["attackers_among", "attacks_among"]
 
+# How many knights a side can have beside its king and another piece.
+_MOST = 14
 
-# The positions of the library with these pieces, and the squares of the kings that they have besides.
-def _positions(men: Mapping[Square, Piece]) -> Iterator[Tuple[_board.Board, Tuple[Square, ...]]]:
-    missing = [Piece(KING, color) for color in COLORS if Piece(KING, color) not in men.values()]
-    for places in permutations([square for square in SQUARES if square not in men], len(missing)):
-        placement = field_of({**men, **dict(zip(places, missing))})
-        for side in "wb":
-            try:
-                yield _board.Board(f"{placement} {side} - - 0 1"), places
-            except InvalidFenError:
-                continue
+
+# The piece, knights on the other squares that are occupied, and the kings that are missing.
+def _replaced(men: Mapping[Square, Piece], square: Square) -> Tuple[Dict[Square, Piece], List[Piece]]:
+    man = men[square]
+    found = {at: Piece(KNIGHT, man.color if place < _MOST else not man.color) for place, at in enumerate(at for at in men if at != square)}
+    found[square] = man
+    return found, [king for king in (Piece(KING, color) for color in COLORS) if king != man]
+
+
+# Ways to place pieces and a side to move, each with the squares of the kings that were put there: the pieces as they are, and the piece among knights.
+def _ways(men: Mapping[Square, Piece], square: Square) -> Iterator[Tuple[str, Tuple[Square, ...]]]:
+    for side in "wb":
+        yield f"{field_of(men)} {side}", ()
+    if len(men) > 2 * _MOST + 2:
+        return
+    found, kings = _replaced(men, square)
+    side = "b" if men[square].color else "w"
+    for places in permutations([at for at in SQUARES if at not in men], len(kings)):
+        yield f"{field_of({**found, **dict(zip(places, kings))})} {side}", places
 
 
 def attacks_among(men: Mapping[Square, Piece], square: Square) -> Bitboard:
-    """The squares that the piece on the square attacks. Raises `ValueError` if no position has these pieces, as of two white kings."""
+    """The squares that the piece on the square attacks. Raises `ValueError` if the library can't be asked: of a pawn on the last rank, and if the pieces are more than
+    30 and no position."""
     if square not in men:
         return 0
-    for board, places in _positions(men):
-        found = board.attacks(square).mask
+    for way, places in _ways(men, square):
+        try:
+            found = _board.Board(f"{way} - - 0 1").attacks(square).mask
+        except InvalidFenError:
+            continue
         # (a king that is in the way is attacked)
         if not any(found >> place & 1 for place in places):
             return found
-    raise ValueError(f"the library has no position with these pieces, so it can't say what they attack: {dict(men)}")
+    raise ValueError(f"the library has no position with this piece among these: {men[square]!r}, {field_of(men)}")
 
 
 def attackers_among(men: Mapping[Square, Piece], color: Color, square: Square) -> Bitboard:

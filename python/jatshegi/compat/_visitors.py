@@ -149,6 +149,8 @@ class StringExporterMixin:
             self.force_movenumber = True
 
     def visit_nag(self, nag: int) -> None:
+        if nag < 0:
+            raise ValueError(f"an annotation is a number of 0 or more: {nag}")
         if self.comments and self._is_written():
             self.write_token(f"${nag} ")
 
