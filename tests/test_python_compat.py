@@ -11,6 +11,7 @@ import struct
 import subprocess
 import sys
 import tempfile
+import time
 import textwrap
 import unittest
 
@@ -48,6 +49,8 @@ class Names(unittest.TestCase):
         self.assertEqual((chess.BB_CORNERS, chess.BB_BACKRANKS), (0x8100000000000081, 0xFF000000000000FF))
         self.assertEqual(chess.BB_LIGHT_SQUARES ^ chess.BB_DARK_SQUARES, chess.BB_ALL)
         self.assertTrue(chess.BB_DARK_SQUARES & chess.BB_A1)
+        self.assertEqual((chess.BB_KNIGHT_ATTACKS[chess.A1], chess.BB_KING_ATTACKS[chess.H8], len(chess.BB_KNIGHT_ATTACKS)), (chess.BB_B3 | chess.BB_C2, chess.BB_G8 | chess.BB_G7 | chess.BB_H7, 64))
+        self.assertEqual((chess.BB_RAYS[chess.A1][chess.A4], chess.BB_RAYS[chess.A1][chess.B3]), (chess.BB_FILE_A, 0))
         self.assertEqual([it.value for it in chess.Termination], list(range(1, 8)))
         self.assertEqual((chess.STATUS_OPPOSITE_CHECK, chess.Status.EMPTY | chess.Status.NO_WHITE_KING | chess.Status.NO_BLACK_KING), (1024, 2051))
 
@@ -595,8 +598,12 @@ class Engines(unittest.TestCase):
             with engine.analysis(chess.Board(self.MATE), chess.engine.Limit(depth=2)) as analysis:
                 self.assertEqual(analysis.wait().move, chess.Move.from_uci("a1a8"))
             running = engine.analysis(chess.Board())
+            while running.would_block():
+                time.sleep(0.01)
+            self.assertEqual((running.empty(), running.would_block()), (False, False))
             running.stop()
             self.assertIn(running.wait().move, chess.Board().legal_moves)
+            self.assertEqual((running.empty(), running.would_block()), (True, False))
 
     def test_asyncio(self):
         async def main():
@@ -633,6 +640,9 @@ class Books(unittest.TestCase):
                 without = [chess.Move.from_uci("g1f3")]
                 self.assertEqual({reader.weighted_choice(board, exclude_moves=without).move.uci(), reader.choice(board, exclude_moves=without).move.uci()}, {"e2e4"})
                 self.assertIsNone(reader.get(played("e4")))
+                self.assertEqual([reader.bisect_key_left(it) for it in (0, key, key + 1)], [0, 0, 3])
+                self.assertEqual((reader[-1], entries[0] in reader, len(list(reader))), (entries[1], True, 3))
+                self.assertRaises(IndexError, lambda: reader[3])
                 self.assertRaises(IndexError, reader.find, played("e4"))
 
 

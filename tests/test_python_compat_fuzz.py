@@ -43,7 +43,7 @@ def seen(board):
 
 
 class BoardCalls:
-    """A board and its model: all that it had before each move, and what other boards had when they were left."""
+    """A board and its model: its contents before each move, and the contents of boards that were left behind."""
 
     def __init__(self, case, chance):
         self.case, self.chance = case, chance
@@ -125,7 +125,7 @@ class BoardCalls:
             self.before = []
 
     def fields(self):
-        """Sets a field, before a move is made; the others stay."""
+        """Sets a field before a move is made. The other fields stay the same."""
         name, value = self.chance.choice([("turn", self.chance.random() < 0.5), ("castling_rights", chess.BB_CORNERS & self.chance.getrandbits(64)), ("ep_square", self.chance.choice([None, 44])), ("halfmove_clock", self.chance.randrange(200)), ("fullmove_number", self.chance.randrange(1, 300))])
         if self.board.move_stack:
             self.refused(ValueError, lambda: setattr(self.board, name, value))
@@ -179,7 +179,7 @@ class Boards(unittest.TestCase):
                     self.assertEqual(seen(board), had)
 
     def test_a_game_is_what_its_moves_make(self):
-        """A board that made and took back moves has what a new board has after its moves, also over null moves."""
+        """A board that made and took back moves equals a new board after the moves that are left, also with null moves."""
         for seed in range(BOARDS):
             chance, board = random.Random(seed), chess.Board()
             for _ in range(CALLS):
@@ -207,7 +207,7 @@ class Node:
 
 
 def words(*texts):
-    """What reading keeps of comments: their words."""
+    """The words of comments, which reading keeps."""
     return " ".join(" ".join(texts).split())
 
 
@@ -266,7 +266,7 @@ class Trees(unittest.TestCase):
             model.nags ^= {nag}
 
     def command(self, chance, node, model):
-        """A command is put into a comment, and taken out: the rest stays."""
+        """Puts a command into a comment and takes it out. The rest of the comment stays."""
         before = node.comment
         seconds = chance.randrange(10**7) / 1000
         for put, get in ((node.set_clock, node.clock), (node.set_emt, node.emt)):
@@ -280,7 +280,7 @@ class Trees(unittest.TestCase):
         model.comment = node.comment
 
     def wrong(self, chance, node, model):
-        """What is refused changes nothing; a comment that can't be written is kept, and the text refused."""
+        """A refused call leaves the game unchanged. A comment that can't be written stays in the game, and the text is refused."""
         self.assertRaises((KeyError, IndexError), node.remove_variation, chance.choice([chess.Move(0, 0, 5), len(model.children)]))
         self.assertRaises((KeyError, IndexError), node.promote, chess.pgn.Game())
         before, node.comment = node.comment, "a } b"
@@ -342,7 +342,7 @@ class Trees(unittest.TestCase):
                 self.assert_same(game, model)
 
     def test_files(self):
-        """Games that are written one after another are read one after another, by each of the ways; so are those after a game that can't be read."""
+        """Games that were written into a file are read from it in order, by each call that reads; also the games after a faulty one."""
         for seed in range(GAMES // 4):
             chance, file = random.Random(seed), io.StringIO()
             games = [self.made(chance)[0] for _ in range(4)]

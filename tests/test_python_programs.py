@@ -54,7 +54,7 @@ GAMES = """\
 
 
 def write_files(folder):
-    """The files that programs find beside them: games, an opening book and an engine."""
+    """Writes the files that programs use: games, an opening book and a link to an engine."""
     with open(f"{folder}/games.pgn", "w", encoding="utf-8") as file:
         file.write(GAMES)
     # (e4, d4 and Nf3 of the usual position, of the weights 30, 20 and 10)
@@ -71,7 +71,7 @@ def changed(program):
 
 
 class Programs(unittest.TestCase):
-    """The cases of both modules: `programs` are names, texts and what they print."""
+    """The check of both modules. Each program is a name, a text and the output that it has."""
 
     def check(self, programs):
         with tempfile.TemporaryDirectory() as folder:

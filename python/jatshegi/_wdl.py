@@ -52,7 +52,7 @@ class Wdl(NamedTuple):
 
 
 class PovWdl:
-    """Chances with the side whose they are. It can be gone through as its own side's `Wdl`."""
+    """Chances with the side whose they are. Iteration gives the three numbers for that side."""
 
     __slots__ = ("relative", "turn")
 
@@ -114,7 +114,7 @@ def wdl_of(score: Score, model: str) -> Wdl:
 
 
 def wdl_said(words: List[str]) -> Optional[Wdl]:
-    """The chances of the words after `wdl` of a line `info`; None if they are none."""
+    """The chances that the words after `wdl` in a line `info` state. Returns None if the words aren't three numbers."""
     try:
         wins, draws, losses = map(int, words)
     except ValueError:

@@ -18,7 +18,7 @@ import subprocess
 import threading
 import time as _time
 from types import TracebackType
-from typing import Any, Callable, Dict, Iterable, List, Mapping, Optional, Sequence, Tuple, Type, Union, overload
+from typing import Any, Dict, Iterable, List, Mapping, Optional, Sequence, Tuple, Type, Union, overload
 
 from . import _library as c
 from ._board import Board

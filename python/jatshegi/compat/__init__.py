@@ -18,7 +18,7 @@ from .._errors import AmbiguousMoveError, IllegalMoveError, InvalidMoveError
 from .._moves import parse_square, square, square_file, square_name, square_rank
 from .._squares import *
 from .._status import Outcome, Termination
-from . import _names, pgn, polyglot, svg
+from . import _aside, _names, pgn, polyglot, svg
 from ._boards import Board, LegalMoveGenerator
 from ._men import BaseBoard
 from ._names import *
@@ -31,6 +31,9 @@ if TYPE_CHECKING:
 def __getattr__(name: str) -> Any:
     if name in ("engine", "gaviota", "syzygy", "variant"):
         return importlib.import_module(f".{name}", __name__)
+    if name in _aside.TABLES:
+        found = globals()[name] = _aside.TABLES[name]()
+        return found
     raise AttributeError(f"module {__name__!r} has no attribute {name!r}")
 
 __all__ = [

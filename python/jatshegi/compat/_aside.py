@@ -1,18 +1,18 @@
-"""Attacks of pieces that are no position, for example of a knight alone.
+"""Attacks on boards whose pieces aren't a position, for example of a lone knight.
 
-An attack depends on the piece and on the occupied squares. So the library is asked about a position in which the other pieces are knights, and in which kings
-stand out of the way."""
+An attack depends on the piece and on the occupied squares. These functions ask the library about a position in which the other pieces are knights, and in which
+kings stand out of the way."""
 from __future__ import annotations
 
 from itertools import permutations
-from typing import Dict, Iterator, List, Mapping, Tuple
+from typing import Callable, Dict, Iterator, List, Mapping, Tuple
 
 from .. import _board
 from .._errors import InvalidFenError
-from ._names import BB_SQUARES, COLORS, KING, KNIGHT, SQUARES, Bitboard, Color, Piece, Square
+from ._names import BB_SQUARES, COLORS, KING, KNIGHT, SQUARES, WHITE, Bitboard, Color, Piece, Square, ray
 from ._placement import field_of
 
-__all__ = ["attackers_among", "attacks_among"]
+__all__ = ["TABLES", "attackers_among", "attacks_among"]
 
 # How many knights a side can have beside its king and another piece.
 _MOST = 14
@@ -39,8 +39,7 @@ def _ways(men: Mapping[Square, Piece], square: Square) -> Iterator[Tuple[str, Tu
 
 
 def attacks_among(men: Mapping[Square, Piece], square: Square) -> Bitboard:
-    """The squares that the piece on the square attacks. Raises `ValueError` if the library can't be asked: of a pawn on the last rank, and if the pieces are more than
-    30 and no position."""
+    """The squares that the piece on the square attacks. Raises `ValueError` for a pawn on the last rank, and for more than 30 pieces that aren't a position."""
     if square not in men:
         return 0
     for way, places in _ways(men, square):
@@ -57,3 +56,11 @@ def attacks_among(men: Mapping[Square, Piece], square: Square) -> Bitboard:
 def attackers_among(men: Mapping[Square, Piece], color: Color, square: Square) -> Bitboard:
     """The squares of the pieces of that colour that attack the square. Raises `ValueError` as `attacks_among`."""
     return sum(BB_SQUARES[at] for at, man in men.items() if man.color == color and attacks_among(men, at) >> square & 1)
+
+
+#: Tables of words for each square, which are made when they are asked for.
+TABLES: Dict[str, Callable[[], List[object]]] = {
+    "BB_KING_ATTACKS": lambda: [attacks_among({square: Piece(KING, WHITE)}, square) for square in SQUARES],
+    "BB_KNIGHT_ATTACKS": lambda: [attacks_among({square: Piece(KNIGHT, WHITE)}, square) for square in SQUARES],
+    "BB_RAYS": lambda: [[ray(a, b) for b in SQUARES] for a in SQUARES],
+}

@@ -587,7 +587,7 @@ class Board(BaseBoard):
         return move
 
     def xboard(self, move: Move, chess960: Optional[bool] = None) -> str:
-        """The move's text as XBoard has it, which is UCI's but for the null move."""
+        """The move's text as XBoard writes it: that of UCI, and '@@@@' for the null move."""
         return self.uci(move, chess960=chess960) if move else move.xboard()
 
     parse_xboard, push_xboard = parse_san, push_san

@@ -1,4 +1,4 @@
-"""The fields of a FEN, also of pieces that are no position."""
+"""The fields of a FEN, also if the pieces aren't a position."""
 from __future__ import annotations
 
 from typing import Dict, NamedTuple, Optional
@@ -39,7 +39,7 @@ class Fields(NamedTuple):
 
 
 def fields_of(fen: str) -> Fields:
-    """The fields of a FEN, of which only the first one must be there. Raises `ValueError`."""
+    """The fields of a FEN. All fields after the first may be missing. Raises `ValueError`."""
     parts = fen.split()
     if not 1 <= len(parts) <= 6:
         raise ValueError(f"a FEN has one to six fields: {fen!r}")

@@ -15,8 +15,10 @@ _PAWNS, _KINGS = b"Pp", b"Kk"
 
 
 def in_order(moves: List[_moves.Move], men: bytes, is_check: bool) -> List[_moves.Move]:
-    """The legal moves, whose squares ascend, in the order of python-chess: those of a king in check, of pieces, castling, pawns that capture, go one step and two
-    steps, and en passant; of each kind the highest squares come first. `men` has the letter of the piece on each square."""
+    """Puts legal moves, which ascend by their squares, into the order of python-chess.
+
+    The moves of a king in check come first. Then come moves of pieces, castling, captures of pawns, single steps, double steps and en passant. Within each kind
+    the highest squares come first. `men` lists the letter of the piece on each square."""
     kings: List[_moves.Move] = []
     pieces: List[_moves.Move] = []
     castles: List[_moves.Move] = []

@@ -1,4 +1,4 @@
-"""What goes through a game, by python-chess's names, and what it makes."""
+"""Visitors of games, by python-chess's names, and the texts that they write."""
 from __future__ import annotations
 
 from typing import TYPE_CHECKING, Generic, List, Optional, TextIO, TypeVar
@@ -59,11 +59,11 @@ class BaseVisitor(Generic[_T]):
         """The game has ended."""
 
     def result(self) -> _T:
-        """What the visitor has made."""
+        """The value that the visitor has made."""
         raise NotImplementedError("a visitor has a result")
 
     def handle_error(self, error: Exception) -> None:
-        """The text of the game couldn't be read as it is: moves are left out. Raises it here."""
+        """A fault in the text of the game, from which moves are left out. This class raises it."""
         raise error
 
 
@@ -87,7 +87,7 @@ class SkipVisitor(BaseVisitor[bool]):
         return SKIP
 
     def handle_error(self, error: Exception) -> None:
-        """Nothing is read of the game."""
+        """Passes over the fault."""
 
     def result(self) -> bool:
         return True
@@ -116,7 +116,7 @@ class StringExporterMixin:
         self.current_line += token
 
     def write_line(self, line: str = "") -> None:
-        """A line of its own."""
+        """Writes a line that stands alone."""
         self.flush_current_line()
         self.lines.append(line.rstrip())
 

@@ -2,7 +2,9 @@
 from __future__ import annotations
 
 import asyncio
+import logging
 import os
+import time
 from functools import partial
 from typing import Any, Dict, Iterable, Iterator, List, Mapping, NamedTuple, Optional, Sequence, Tuple, Type, Union, overload
 
@@ -19,6 +21,7 @@ from ..engine import (
     Cp,
     EngineError,
     EngineTerminatedError,
+    EngineTimeoutError,
     Info,
     InfoDict,
     Limit,
@@ -44,14 +47,16 @@ __all__ = [
     "AnalysisComplete",
     "AnalysisResult",
     "BestMove",
+    "ConfigMapping",
     "Cp",
     "EngineError",
+    "EngineProtocol",
     "EngineTerminatedError",
+    "EventLoopPolicy",
     "Info",
     "InfoDict",
     "Limit",
-    "EngineProtocol",
-    "EventLoopPolicy",
+    "LOGGER",
     "MANAGED_OPTIONS",
     "Mate",
     "MateGiven",
@@ -70,8 +75,10 @@ __all__ = [
     "popen_xboard",
 ]
 
+LOGGER = logging.getLogger("chess.engine")
+
 _Command = Union[str, List[str], Sequence[str]]
-_Options = Mapping[str, Union[str, int, bool, None]]
+_Options = ConfigMapping = Mapping[str, Union[str, int, bool, None]]
 
 
 class AnalysisComplete(Exception):
@@ -89,7 +96,7 @@ class PlayResult(NamedTuple):
 
 
 class Opponent(NamedTuple):
-    """Who plays against an engine."""
+    """A player who plays against an engine."""
 
     name: Optional[str]
     title: Optional[str] = None
@@ -177,6 +184,15 @@ class SimpleAnalysisResult:
             raise StopIteration
         return info
 
+    def empty(self) -> bool:
+        """Whether the engine has said nothing that `next` has not returned."""
+        with self._engine._lock:
+            return self._engine._running is not self or not self._engine._has_line()
+
+    def would_block(self) -> bool:
+        """Whether `next` would wait for the engine."""
+        return self.empty() and self._engine._running is self
+
     def stop(self) -> None:
         """Has the engine end the search; what it still says comes by `next`."""
         if self._engine._running is self:
@@ -233,6 +249,15 @@ class SimpleEngine(_engine.SimpleEngine):
 
     def send_game_result(self, board: Board, winner: Optional[Color] = None, game_ending: Optional[str] = None, game_complete: bool = True) -> None:
         """Does nothing: no line of UCI says a result."""
+
+    # Whether a line of the engine is there.
+    def _has_line(self) -> bool:
+        while b"\n" not in self._left:
+            try:
+                self._wait(time.monotonic())
+            except EngineTimeoutError:
+                return False
+        return True
 
     # Has a search end, also while another thread waits for its next line, and has the lock.
     def _interrupt(self) -> None:
@@ -335,6 +360,14 @@ class AnalysisResult:
     def info(self) -> InfoDict:
         """What was said last of the first line."""
         return self._found.info
+
+    def empty(self) -> bool:
+        """Whether the engine has said nothing that `next` has not returned."""
+        return self._found.empty()
+
+    def would_block(self) -> bool:
+        """Whether `next` would wait for the engine."""
+        return self._found.would_block()
 
     def stop(self) -> None:
         """Has the engine end the search."""

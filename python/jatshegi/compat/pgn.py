@@ -38,9 +38,13 @@ from ._visitors import BaseVisitor, BoardBuilder, FileExporter, FileExporterMixi
 from .svg import Arrow
 
 __all__ = [
+    "ARROWS_REGEX",
     "BaseVisitor",
     "BoardBuilder",
+    "CLOCK_REGEX",
     "ChildNode",
+    "EMT_REGEX",
+    "EVAL_REGEX",
     "FileExporter",
     "FileExporterMixin",
     "Game",
@@ -55,6 +59,7 @@ __all__ = [
     "SkipVisitor",
     "StringExporter",
     "StringExporterMixin",
+    "TAG_NAME_REGEX",
     "TAG_ROSTER",
     "TimeControl",
     "TimeControlPart",
@@ -71,6 +76,7 @@ _T = TypeVar("_T")
 # (the name that programs for python-chess give to `logging`)
 LOGGER = logging.getLogger("chess.pgn")
 
+TAG_NAME_REGEX = re.compile(r"[A-Za-z0-9][A-Za-z0-9_+#=:-]*")
 TAG_ROSTER = ["Event", "Site", "Date", "Round", "White", "Black", "Result"]
 _UNKNOWN = {"Date": "????.??.??", "Result": "*"}
 # The wild games of other programs, which begin in other positions.
@@ -79,12 +85,12 @@ _WILD = ("wild/0", "wild/1", "wild/2", "wild/3", "wild/4", "wild/5", "wild/6", "
 _CUTS = ("Null", "Illegal", "Unreadable", "Variation", "Fen", "Squares")
 
 _TIME = r"(?P<prefix>\s?)\[%{}\s(?P<hours>\d+):(?P<minutes>\d+):(?P<seconds>\d+(?:\.\d*)?)\](?P<suffix>\s?)"
-_CLOCK, _EMT = re.compile(_TIME.format("clk")), re.compile(_TIME.format("emt"))
-_EVAL = re.compile(
+CLOCK_REGEX, EMT_REGEX = re.compile(_TIME.format("clk")), re.compile(_TIME.format("emt"))
+EVAL_REGEX = re.compile(
     r"(?P<prefix>\s?)\[%eval\s(?:\#(?P<mate>[+-]?\d+)|(?P<cp>[+-]?(?:\d{0,10}\.\d{1,2}|\d{1,10}\.?)))(?:,(?P<depth>\d+))?\](?P<suffix>\s?)"
 )
 _ARROW = r"[RGYB][a-h][1-8](?:[a-h][1-8])?"
-_ARROWS = re.compile(rf"(?P<prefix>\s?)\[%(?:csl|cal)\s(?P<arrows>{_ARROW}(?:,{_ARROW})*)\](?P<suffix>\s?)")
+ARROWS_REGEX = re.compile(rf"(?P<prefix>\s?)\[%(?:csl|cal)\s(?P<arrows>{_ARROW}(?:,{_ARROW})*)\](?P<suffix>\s?)")
 
 
 def _instead(command: str) -> Callable[[Match[str]], str]:
@@ -291,23 +297,23 @@ class GameNode:
 
     def clock(self) -> Optional[float]:
         """The seconds of `[%clk ..]`, which the player has after the move; None if there is none."""
-        return self._seconds(_CLOCK)
+        return self._seconds(CLOCK_REGEX)
 
     def set_clock(self, seconds: Optional[float]) -> None:
         """Sets it, or takes it out."""
-        self._set_seconds(_CLOCK, "clk", seconds)
+        self._set_seconds(CLOCK_REGEX, "clk", seconds)
 
     def emt(self) -> Optional[float]:
         """The seconds of `[%emt ..]`, which the move took; None if there is none."""
-        return self._seconds(_EMT)
+        return self._seconds(EMT_REGEX)
 
     def set_emt(self, seconds: Optional[float]) -> None:
         """Sets it, or takes it out."""
-        self._set_seconds(_EMT, "emt", seconds)
+        self._set_seconds(EMT_REGEX, "emt", seconds)
 
     def eval(self) -> Optional[PovScore]:
         """The score of `[%eval ..]`; None if there is none."""
-        match, turn = _EVAL.search(self.comment), self.turn()
+        match, turn = EVAL_REGEX.search(self.comment), self.turn()
         if match is None:
             return None
         if match["mate"] and int(match["mate"]) == 0:
@@ -318,7 +324,7 @@ class GameNode:
 
     def eval_depth(self) -> Optional[int]:
         """The depth of `[%eval ..,depth]`; None if there is none."""
-        match = _EVAL.search(self.comment)
+        match = EVAL_REGEX.search(self.comment)
         return None if match is None or match["depth"] is None else int(match["depth"])
 
     def set_eval(self, score: Optional[PovScore], depth: Optional[int] = None) -> None:
@@ -328,18 +334,18 @@ class GameNode:
             cp = white.score()
             value = f"#{white.mate()}" if cp is None else f"{cp / 100:.2f}"
         after = "" if depth is None else f",{max(depth, 0)}"
-        self._set_command(_EVAL, f"[%eval {value}{after}]" if value else "")
+        self._set_command(EVAL_REGEX, f"[%eval {value}{after}]" if value else "")
 
     def arrows(self) -> List[Arrow]:
         """The arrows and rings of `[%cal ..]` and `[%csl ..]`."""
-        return [Arrow.from_pgn(text) for match in _ARROWS.finditer(self.comment) for text in match["arrows"].split(",")]
+        return [Arrow.from_pgn(text) for match in ARROWS_REGEX.finditer(self.comment) for text in match["arrows"].split(",")]
 
     def set_arrows(self, arrows: Iterable[Union[Arrow, Tuple[Square, Square]]]) -> None:
         """Sets them, or takes them out."""
         texts = [Arrow(*arrow).pgn() for arrow in arrows]
         kinds = (("csl", [it for it in texts if len(it) == 3]), ("cal", [it for it in texts if len(it) == 5]))
         written = "".join(f"[%{name} {','.join(found)}]" for name, found in kinds if found)
-        rest = _ARROWS.sub(_instead(""), self.comment)
+        rest = ARROWS_REGEX.sub(_instead(""), self.comment)
         self.comment = written + (" " if written and rest and rest[0] not in " \n" else "") + rest
 
     # ---- visitors
@@ -349,7 +355,7 @@ class GameNode:
         raise NotImplementedError("a node is a Game or a ChildNode")
 
     def accept_subgame(self, visitor: BaseVisitor[_T]) -> _T:
-        """Has the visitor see a game that begins after the node: its tags, and all that follows."""
+        """Shows the visitor a game that begins at the node: its tags and the moves that follow."""
         if visitor.begin_game() is not SKIP:
             game, board, begin = self.game(), self.board(), Game.without_tag_roster()
             begin.setup(board)
@@ -407,7 +413,7 @@ class Headers(MutableMapping[str, str]):
 
     @classmethod
     def builder(cls) -> HeadersBuilder:
-        """What makes such tags of visits."""
+        """A visitor that makes such tags."""
         return HeadersBuilder(Headers=cls)
 
     def is_chess960(self) -> bool:
@@ -429,7 +435,7 @@ class Headers(MutableMapping[str, str]):
         return self.variant()(self.get("FEN", STARTING_FEN))
 
     def __setitem__(self, key: str, value: str) -> None:
-        if not re.fullmatch(r"[A-Za-z0-9][A-Za-z0-9_+#=:-]*", key):
+        if not TAG_NAME_REGEX.fullmatch(key):
             raise ValueError(f"no name of a tag: {key!r}")
         if "\n" in value or "\r" in value:
             raise ValueError(f"a tag's value has no end of line: {value!r}")
@@ -491,7 +497,7 @@ class Game(GameNode):
         return self.headers.board()
 
     def time_control(self) -> TimeControl:
-        """What the tag TimeControl says. Raises `ValueError`."""
+        """The times of the tag TimeControl. Raises `ValueError`."""
         return parse_time_control(self.headers.get("TimeControl", ""))
 
     def setup(self, board: Union[Board, str]) -> None:

@@ -71,6 +71,14 @@ class MemoryMappedReader:
     def __iter__(self) -> Iterator[Entry]:
         return map(self.__getitem__, range(len(self)))
 
+    def bisect_key_left(self, key: int) -> int:
+        """The number of the first entry whose key is at least that key."""
+        low, high = 0, len(self)
+        while low < high:
+            middle = (low + high) // 2
+            low, high = (middle + 1, high) if self[middle].key < key else (low, middle)
+        return low
+
     def find_all(self, board: Board, *, minimum_weight: int = 1, exclude_moves: Container[Move] = ()) -> Iterator[Entry]:
         """The position's entries whose moves are legal, of at least that weight, without those of some moves."""
         book, key, first, count = self._book, zobrist_hash(board), c_size_t(), c_size_t()

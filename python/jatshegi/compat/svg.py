@@ -61,7 +61,7 @@ def board(
     borders: bool = False,
     style: Optional[str] = None,
 ) -> SvgWrapper:
-    """A picture of a board, whose pieces need be no position. `style` is CSS for it; `borders` changes nothing."""
+    """A picture of a board, whose pieces need be no position. `style` is CSS for it; `borders` is ignored."""
     picture = _svg.board(
         None if board is None else board.piece_map(),
         orientation=orientation != flipped,
