@@ -133,6 +133,8 @@ class Boards(unittest.TestCase):
         castles = chess.Board("r3k2r/8/8/8/8/8/8/R3K2R w KQkq - 0 1")
         self.assertEqual([castles.parse_san(text).uci() for text in ("O-O", "0-0", "O-O-O", "0-0-0")], ["e1g1", "e1g1", "e1c1", "e1c1"])
         self.assertTrue(castles.is_kingside_castling(castles.parse_san("0-0")))
+        self.assertEqual([castles.parse_uci(uci).uci() for uci in ("e1h1", "e1a1", "e1g1")], ["e1g1", "e1c1", "e1g1"])
+        self.assertRaises(chess.IllegalMoveError, board.parse_uci, "e1h1")
         for text, error in (("Ke2", chess.IllegalMoveError), ("xx", chess.InvalidMoveError), ("e2-e5", chess.IllegalMoveError)):
             self.assertRaises(error, board.push_san, text)
         self.assertRaises(chess.AmbiguousMoveError, chess.Board("4k3/8/8/8/8/8/4K3/R6R w - - 0 1").parse_san, "Rd1")
@@ -160,12 +162,31 @@ class Boards(unittest.TestCase):
             for board in (chess.Board(), chess.Board.empty()):
                 for value, error in ((-1, ValueError), (1.5, TypeError), (1 << 20, ValueError)):
                     self.assertRaises(error, setattr, board, name, value)
-        moved = played("Nf3")
-        with self.assertRaisesRegex(ValueError, "clear_stack"):
-            moved.turn = chess.WHITE
-        moved.clear_stack()
-        moved.turn = chess.WHITE
-        self.assertEqual((moved.move_stack, moved.fen().split()[1]), ([], "w"))
+
+    def test_fields_that_are_set_after_moves(self):
+        """The moves stay. `pop` takes the change back with the last move, and a field that is set back leaves no trace."""
+        board = played("Nf3 Nf6 Ng1")
+        mobility = [board.legal_moves.count()]
+        board.turn = not board.turn
+        mobility.append(board.legal_moves.count())
+        self.assertEqual((board.turn, board.peek().uci(), len(board.move_stack), board.fen().split()[1]), (chess.WHITE, "f3g1", 3, "w"))
+        board.push_san("e4")
+        self.assertEqual(([move.uci() for move in board.move_stack], board.root()), (["g1f3", "g8f6", "f3g1", "e2e4"], chess.Board()))
+        for other in (board.copy(), pickle.loads(pickle.dumps(board)), board.copy(stack=3)):
+            self.assertEqual(other, board)
+            self.assertEqual(([other.pop().uci() for _ in range(2)], other, other.peek().uci()), (["e2e4", "f3g1"], played("Nf3 Nf6"), "g8f6"))
+        board.pop()
+        board.turn = chess.BLACK
+        self.assertEqual((board, board._past, mobility), (played("Nf3 Nf6 Ng1"), (), [22, 20]))
+        board.castling_rights = chess.BB_H1
+        board.halfmove_clock = 40
+        self.assertEqual((board.fen(), board.pop().uci(), board), ("rnbqkb1r/pppppppp/5n2/8/8/8/PPPPPPPP/RNBQKBNR b K - 40 2", "f3g1", played("Nf3 Nf6")))
+        board.push(chess.Move.null())
+        board.turn = chess.WHITE
+        self.assertEqual((board.peek(), board.pop(), board), (chess.Move.null(), chess.Move.null(), played("Nf3 Nf6")))
+        board.turn = chess.BLACK
+        board.clear_stack()
+        self.assertEqual((board.move_stack, board.fen().split()[1]), ([], "b"))
 
     def test_null_moves(self):
         board = played("e4 e5 Nf3")

@@ -11,7 +11,7 @@ import unittest
 import runs
 
 PACKAGE = f"{runs.TOP}/python"
-BOARDS, CALLS = 60, 80
+BOARDS, CALLS = 40, 80
 GAMES, EDITS = 60, 40
 FENS = (
     "r3k2r/p1ppqpb1/bn2pnp1/3PN3/1p2P3/2N2Q1p/PPPBBPPP/R3K2R w KQkq - 0 1",
@@ -125,15 +125,15 @@ class BoardCalls:
             self.before = []
 
     def fields(self):
-        """Sets a field before a move is made. The other fields stay the same."""
+        """Sets a field. The other fields and the moves stay the same."""
         name, value = self.chance.choice([("turn", self.chance.random() < 0.5), ("castling_rights", chess.BB_CORNERS & self.chance.getrandbits(64)), ("ep_square", self.chance.choice([None, 44])), ("halfmove_clock", self.chance.randrange(200)), ("fullmove_number", self.chance.randrange(1, 300))])
-        if self.board.move_stack:
-            self.refused(ValueError, lambda: setattr(self.board, name, value))
-            return
-        names = ("castling_rights", "ep_square", "turn", "halfmove_clock", "fullmove_number")
-        wanted = {**dict(zip(names, seen(self.board)[1:6])), name: value}, self.board.piece_map()
+        names, was = ("castling_rights", "ep_square", "turn", "halfmove_clock", "fullmove_number"), seen(self.board)
         setattr(self.board, name, value)
-        self.case.assertEqual(({it: getattr(self.board, it) for it in names}, self.board.piece_map()), wanted)
+        found = seen(self.board)
+        self.case.assertEqual((dict(zip(names, found[1:6])), found[6:8]), ({**dict(zip(names, was[1:6])), name: value}, was[6:8]))
+        for wrong in ("x", None, 1 << 70, 0.5):
+            if (name, wrong) != ("ep_square", None):
+                self.refused((ValueError, TypeError, NotImplementedError), lambda: setattr(self.board, name, wrong))
 
     def begin(self):
         fen = self.chance.choice(FENS)

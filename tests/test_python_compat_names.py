@@ -125,6 +125,12 @@ class Names(unittest.TestCase):
         missing = {group: {name for name in names.split() if not has(objects[group], name)} for group, names in NAMES.items()}
         self.assertEqual({group: names for group, names in missing.items() if names}, self.left_out())
 
+    def test_the_page_says_how_many_programs_run(self):
+        modules = [importlib.import_module(f"test_python_programs{part}") for part in ("", "_games", "_tasks")]
+        with open(f"{runs.TOP}/docs/PYTHON.md", encoding="utf-8") as page:
+            said = re.search(r"Tests run (\d+) programs", page.read())
+        self.assertEqual(int(said[1]), sum(len(module.PROGRAMS) for module in modules))
+
     def test_the_page_says_how_many_names_are_compared(self):
         with open(f"{runs.TOP}/docs/PYTHON.md", encoding="utf-8") as page:
             said = re.search(r"compares (\d+) names", page.read())

@@ -53,17 +53,6 @@ GAMES = """\
 """
 
 
-def write_files(folder):
-    """Writes the files that programs use: games, an opening book and a link to an engine."""
-    with open(f"{folder}/games.pgn", "w", encoding="utf-8") as file:
-        file.write(GAMES)
-    # (e4, d4 and Nf3 of the usual position, of the weights 30, 20 and 10)
-    entries = [struct.pack(">QHHI", 0x463B96181691FC9C, origin << 6 | target, weight, 0) for origin, target, weight in ((12, 28, 30), (11, 27, 20), (6, 21, 10))]
-    with open(f"{folder}/book.bin", "wb") as file:
-        file.write(b"".join(entries))
-    os.symlink(ENGINE, f"{folder}/stockfish")
-
-
 def changed(program):
     """The program with its import lines changed, as docs/PYTHON.md says."""
     text = re.sub(r"(?m)^import chess(\.\w+)?$", "import jatshegi.compat as chess", textwrap.dedent(program).lstrip("\n"))
@@ -73,9 +62,19 @@ def changed(program):
 class Programs(unittest.TestCase):
     """The check of both modules. Each program is a name, a text and the output that it has."""
 
+    def write_files(self, folder):
+        """Writes the files that programs use: games, an opening book and a link to an engine."""
+        with open(f"{folder}/games.pgn", "w", encoding="utf-8") as file:
+            file.write(GAMES)
+        # (e4, d4 and Nf3 of the usual position, of the weights 30, 20 and 10)
+        entries = [struct.pack(">QHHI", 0x463B96181691FC9C, origin << 6 | target, weight, 0) for origin, target, weight in ((12, 28, 30), (11, 27, 20), (6, 21, 10))]
+        with open(f"{folder}/book.bin", "wb") as file:
+            file.write(b"".join(entries))
+        os.symlink(ENGINE, f"{folder}/stockfish")
+
     def check(self, programs):
         with tempfile.TemporaryDirectory() as folder:
-            write_files(folder)
+            self.write_files(folder)
             for plain in ("", "1"):
                 environment = {**os.environ, "PYTHONPATH": PACKAGE, "JATSHEGI_PLAIN": plain}
                 for name, program, wanted in programs:
@@ -567,58 +566,6 @@ PROGRAMS = [
         """,
     ),
     (
-        "an editor with undo",
-        """
-        import chess
-
-        class Editor:
-            def __init__(self):
-                self.board = chess.Board.empty()
-                self.undo_stack = []
-
-            def put(self, symbol, name):
-                self.undo_stack.append(self.board.copy())
-                self.board.set_piece_at(chess.parse_square(name), chess.Piece.from_symbol(symbol) if symbol else None)
-
-            def drag(self, start, end):
-                piece = self.board.piece_at(chess.parse_square(start))
-                self.put("", start)
-                self.put(piece.symbol(), end)
-
-            def undo(self):
-                self.board = self.undo_stack.pop()
-
-        editor = Editor()
-        for symbol, name in (("K", "e1"), ("k", "e8"), ("Q", "d1"), ("n", "b8")):
-            editor.put(symbol, name)
-        editor.drag("d1", "h5")
-        print(editor.board.fen(), editor.board.status() == chess.STATUS_OPPOSITE_CHECK)
-        editor.undo()
-        editor.undo()
-        print(editor.board)
-        print(editor.board.unicode(invert_color=True, empty_square="."))
-        """,
-        """
-        1n2k3/8/8/7Q/8/8/8/4K3 w - - 0 1 True
-        . n . . k . . .
-        . . . . . . . .
-        . . . . . . . .
-        . . . . . . . .
-        . . . . . . . .
-        . . . . . . . .
-        . . . . . . . .
-        . . . Q K . . .
-        . ♘ . . ♔ . . .
-        . . . . . . . .
-        . . . . . . . .
-        . . . . . . . .
-        . . . . . . . .
-        . . . . . . . .
-        . . . . . . . .
-        . . . ♛ ♚ . . .
-        """,
-    ),
-    (
         "diagrams",
         """
         import chess
@@ -787,91 +734,6 @@ PROGRAMS = [
         KP k False [False, True] *
         KBB k True [True, True] 1/2-1/2
         K kq False [True, False] *
-        """,
-    ),
-    (
-        "exchanges on a square",
-        """
-        import chess
-
-        VALUES = {chess.PAWN: 1, chess.KNIGHT: 3, chess.BISHOP: 3, chess.ROOK: 5, chess.QUEEN: 9, chess.KING: 99}
-
-        def least(board, color, square):
-            attackers = [(VALUES[board.piece_type_at(it)], it) for it in board.attackers(color, square)]
-            return min(attackers)[1] if attackers else None
-
-        def exchange(board, square):
-            attacker = least(board, board.turn, square)
-            if attacker is None:
-                return 0
-            gain = VALUES[board.piece_type_at(square)]
-            move = board.find_move(attacker, square) if any(board.generate_legal_moves(chess.BB_SQUARES[attacker], chess.BB_SQUARES[square])) else None
-            if move is None:
-                return 0
-            board.push(move)
-            value = max(0, gain - exchange(board, square))
-            board.pop()
-            return value
-
-        board = chess.Board("3r2k1/8/8/3p4/8/8/8/3RR1K1 w - - 0 1")
-        print(exchange(board, chess.D5))
-        board = chess.Board("6k1/8/8/3p4/8/8/8/3RR1K1 w - - 0 1")
-        print(exchange(board, chess.D5), board.find_move(chess.D1, chess.D5))
-        """,
-        """
-        0
-        1 d1d5
-        """,
-    ),
-    (
-        "random endings",
-        """
-        import chess
-        import random
-
-        def ending(chance, symbols):
-            while True:
-                board = chess.Board(None)
-                for symbol, square in zip(symbols, chance.sample(chess.SQUARES, len(symbols))):
-                    board.set_piece_at(square, chess.Piece.from_symbol(symbol))
-                board.turn = chance.random() < 0.5
-                if board.is_valid() and not board.is_check() and not board.is_game_over():
-                    return board
-
-        chance = random.Random(1)
-        for symbols in ("KQk", "KRkr", "KPk"):
-            board = ending(chance, symbols)
-            print(symbols, sorted(piece.symbol() for piece in board.piece_map().values()) == sorted(symbols), board.status() == chess.STATUS_VALID, any(board.legal_moves))
-        """,
-        """
-        KQk True True True
-        KRkr True True True
-        KPk True True True
-        """,
-    ),
-    (
-        "names and numbers",
-        """
-        import chess
-
-        print(chess.__name__ != "", chess.STARTING_BOARD_FEN, [chess.piece_symbol(kind) for kind in chess.PIECE_TYPES], chess.COLOR_NAMES[chess.BLACK])
-        print(chess.square_distance(chess.A1, chess.H8), chess.square_manhattan_distance(chess.A1, chess.H8), chess.square_knight_distance(chess.A1, chess.H8))
-        print([chess.square_name(chess.square(file, rank)) for file, rank in ((0, 0), (4, 3), (7, 7))], chess.FILE_NAMES[chess.square_file(chess.E4)], chess.RANK_NAMES[chess.square_rank(chess.E4)])
-        move = chess.Move(chess.E7, chess.E8, promotion=chess.QUEEN)
-        print(move, repr(move), move.uci(), move.from_square, move.promotion, move == chess.Move.from_uci("e7e8q"), len({move, chess.Move.from_uci("e7e8q")}), move.drop)
-        piece = chess.Piece(chess.ROOK, chess.BLACK)
-        print(piece, repr(piece), piece.symbol(), piece.unicode_symbol(), piece.piece_type, piece.color, piece == chess.Piece.from_symbol("r"), len({piece, chess.Piece.from_symbol("r")}))
-        print(chess.UNICODE_PIECE_SYMBOLS["q"], chess.BB_E4 == chess.BB_SQUARES[chess.E4], chess.BB_FILES[4] & chess.BB_RANKS[3] == chess.BB_E4, chess.msb(chess.BB_LIGHT_SQUARES))
-        print(chess.Outcome(chess.Termination.CHECKMATE, chess.WHITE), chess.Outcome(chess.Termination.STALEMATE, None).result())
-        """,
-        """
-        True rnbqkbnr/pppppppp/8/8/8/8/PPPPPPPP/RNBQKBNR ['p', 'n', 'b', 'r', 'q', 'k'] black
-        7 14 6
-        ['a1', 'e4', 'h8'] e 4
-        e7e8q Move.from_uci('e7e8q') e7e8q 52 5 True 1 None
-        r Piece.from_symbol('r') r ♜ 4 False True 1
-        ♛ True True 62
-        Outcome(termination=<Termination.CHECKMATE: 1>, winner=True) 1/2-1/2
         """,
     ),
 ]

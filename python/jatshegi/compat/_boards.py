@@ -9,7 +9,7 @@ from .._checks import colour_of, square_of, text_of, whole
 from .._errors import InvalidFenError
 from .._status import Outcome, Termination
 from . import _epd
-from ._fields import IN_CHECK, NO_POSITION, ROOKS, TWO_KINGS, Fields, fields_from, fields_of
+from ._fields import IN_CHECK, NO_POSITION, ROOKS, TWO_KINGS, Fields, fields_of, fields_of_board
 from ._men import BaseBoard, counts, pawns_on_last_ranks
 from ._names import (
     BB_ALL,
@@ -33,16 +33,17 @@ from ._names import (
     refuse,
 )
 from ._order import LegalMoveGenerator, MoveStack
+from ._past import Chapter, Past, last_moves, moves_of, positions_of, shortened
 from ._placement import men_of
 
 _Of = TypeVar("_Of", bound="Board")
 
+# The rook's square of each square to which a king castles.
+_CASTLES = {6: 7, 2: 0, 62: 63, 58: 56}
 # The ends of a game that a player claims.
 _CLAIMS = (Termination.FIFTY_MOVES, Termination.THREEFOLD_REPETITION)
 # What `parse_san` of python-chess reads as the null move.
 _NULLS = ("--", "Z0", "0000", "@@@@")
-# The boards of the library before each null move, and the fields that were set of them.
-_Past = Tuple[Tuple[_board.Board, Optional[Fields]], ...]
 
 
 class Board(BaseBoard):
@@ -70,8 +71,7 @@ class Board(BaseBoard):
         # The fields that were set last; and the library's refusal of them, if they are no position.
         self._set: Optional[Fields] = None
         self._refusal: Optional[InvalidFenError] = None
-        # (a null move is none of the library's: another board goes on after it)
-        self._past: _Past = ()
+        self._past: Past = ()
 
     @classmethod
     def _of(cls: Type[_Of], board: _board.Board) -> _Of:
@@ -108,7 +108,7 @@ class Board(BaseBoard):
     def _fields(self) -> Fields:
         if self._set is not None and (self._refusal is not None or not self._it.ply):
             return self._set
-        return fields_from(self._men_now(), *self._it.fen().split()[1:])
+        return fields_of_board(self._it)
 
     def _men_now(self) -> Dict[Square, Piece]:
         if self._refusal is not None and self._set is not None:
@@ -124,11 +124,25 @@ class Board(BaseBoard):
     def _place(self, men: Dict[Square, Piece]) -> None:
         self._begin(self._fields()._replace(men=men))
 
-    # Sets a field. Raises `ValueError` if moves have been made: the game would be another one.
+    # Sets a field. The moves before it stay.
     def _edit(self, **changes: Any) -> None:
-        if self._is_moved():
-            raise ValueError("moves have been made, and a field of their position can't be set: begin a new game by clear_stack() or set_fen()")
-        self._begin(self._fields()._replace(**changes))
+        now, last = self._fields(), self._past[-1] if self._past else None
+        fields = now._replace(**changes)
+        if fields == now:
+            return
+        if self._is_played():
+            self._go_on(fields, (*self._past, Chapter(self._it, self._set, False)))
+        elif last is not None and not last.is_null and fields == fields_of_board(last.it):
+            # (as it was before the field was set)
+            self._it, self._set, self._refusal, self._past = last.it, last.fields, None, self._past[:-1]
+        else:
+            self._go_on(fields, self._past)
+
+    # Goes on from these fields after other chapters.
+    def _go_on(self, fields: Fields, past: Past) -> None:
+        after = Board.empty()
+        after._begin(fields)
+        self._it, self._set, self._refusal, self._past = after._it, after._set, after._refusal, past
 
     @property
     def chess960(self) -> bool:
@@ -173,7 +187,7 @@ class Board(BaseBoard):
         """No pieces, and White to move."""
         self._begin(Fields({}))
 
-    # Whether a move has been made since the position was set, or since the last null move.
+    # Whether a move has been made since the position, or a field of it, was set, or since the last null move.
     def _is_played(self) -> bool:
         return self._refusal is None and bool(self._it.ply)
 
@@ -192,13 +206,13 @@ class Board(BaseBoard):
         """A board with the position in which the game began."""
         if not self._is_moved():
             return self.copy()
-        start = (self._past[0][0] if self._past else self._it).copy()
+        start = (self._past[0].it if self._past else self._it).copy()
         start._call(c.lib.jatshegi_board_start, "root")
         return type(self)(start.fen())
 
     @property
     def turn(self) -> Color:
-        """The side to move, which can be set before a move is made."""
+        """The side to move, which can be set."""
         return self._it.turn if self._refusal is None else self._fields().turn
 
     @turn.setter
@@ -207,17 +221,18 @@ class Board(BaseBoard):
 
     @property
     def castling_rights(self) -> Bitboard:
-        """The rooks' squares of the castling rights, which can be set before a move is made."""
+        """The rooks' squares of the castling rights, which can be set."""
         return sum(BB_SQUARES[ROOKS[it][0]] for it in self._fields().castling if it != "-")
 
     @castling_rights.setter
     def castling_rights(self, rights: Bitboard) -> None:
-        if int(rights) & ~sum(BB_SQUARES[rook] for rook, _ in ROOKS.values()):
+        word = whole(rights, "castling rights are a word of 64 bits", 0)
+        if word & ~sum(BB_SQUARES[rook] for rook, _ in ROOKS.values()):
             refuse("there is no Chess960: castling rights are of a1, h1, a8 and h8")
-        self._edit(castling="".join(it for it, (rook, _) in ROOKS.items() if int(rights) >> rook & 1) or "-")
+        self._edit(castling="".join(it for it, (rook, _) in ROOKS.items() if word >> rook & 1) or "-")
 
     def set_castling_fen(self, castling_fen: str) -> None:
-        """Sets the castling rights by the letters of a FEN, before a move is made. Raises `ValueError`."""
+        """Sets the castling rights by the letters of a FEN. Raises `ValueError`."""
         if len(text_of(castling_fen, "castling rights are a text, as KQkq").split()) != 1:
             raise ValueError(f"castling rights are - or letters of KQkq: {castling_fen!r}")
         self._edit(castling=fields_of(f"{TWO_KINGS} w {castling_fen.strip()} - 0 1").castling)
@@ -228,7 +243,7 @@ class Board(BaseBoard):
 
     @property
     def ep_square(self) -> Optional[Square]:
-        """The square that a pawn has just passed over, which can be set before a move is made."""
+        """The square that a pawn has just passed over, which can be set."""
         return self._fields().target
 
     @ep_square.setter
@@ -344,16 +359,16 @@ class Board(BaseBoard):
         """Another board, with all moves before it, with none, or with the last ones."""
         board = type(self).__new__(type(self))
         board.__dict__.update(self.__dict__)
-        board._it, board._past = self._it.copy(), tuple((it.copy(), fields) for it, fields in self._past)
+        board._it, board._past = self._it.copy(), tuple(chapter._replace(it=chapter.it.copy()) for chapter in self._past)
+        own, count = self._it.ply if self._is_played() else 0, int(stack)
         if stack is True or not self._is_moved():
             return board
-        moves = self.move_stack
-        moves = moves[max(len(moves) - int(stack), 0) :]
-        for _ in moves:
-            board.pop()
-        board.clear_stack()
-        for move in moves:
-            board.push(move)
+        if not count:
+            board.clear_stack()
+        elif count > own:
+            board._past = shortened(board._past, count - own)
+        else:
+            board._it, board._set, board._past = last_moves(board._it, count), self._set if count == own else None, ()
         return board
 
     def _with(self: _Of, fields: Fields) -> _Of:
@@ -457,21 +472,20 @@ class Board(BaseBoard):
 
     # Makes the null move. If it leaves a king in check, the board has no position until the move is taken back.
     def _pass(self) -> None:
-        it, fields = self._game, self._fields()
-        after = Board.empty()
-        after._begin(fields._replace(turn=not fields.turn, target=None, clock=fields.clock + 1, number=fields.number + (fields.turn == BLACK)))
-        past = (*self._past, (it, self._set))
-        self._it, self._set, self._refusal, self._past = after._it, after._set, after._refusal, past
+        before, fields = Chapter(self._game, self._set, True), self._fields()
+        passed = fields._replace(turn=not fields.turn, target=None, clock=fields.clock + 1, number=fields.number + (fields.turn == BLACK))
+        self._go_on(passed, (*self._past, before))
 
     def pop(self) -> Move:
-        """Takes the last move back. Raises `IndexError` if there is none."""
-        if self._is_played():
-            return OURS[self._it.pop()]
-        if not self._past:
+        """Takes the last move back, and the fields that were set after it. Raises `IndexError` if no move has been made."""
+        while self._past and not self._is_played():
+            *past, (self._it, self._set, is_null) = self._past
+            self._refusal, self._past = None, tuple(past)
+            if is_null:
+                return Move.null()
+        if not self._is_played():
             raise IndexError("no move has been made")
-        *past, (self._it, self._set) = self._past
-        self._refusal, self._past = None, tuple(past)
-        return Move.null()
+        return OURS[self._it.pop()]
 
     def peek(self) -> Move:
         """The last move. Raises `IndexError` if there is none."""
@@ -479,17 +493,13 @@ class Board(BaseBoard):
             return OURS[self._it.peek()]
         if not self._past:
             raise IndexError("no move has been made")
-        return Move.null()
+        last = self._past[-1]
+        return Move.null() if last.is_null else OURS[last.it.peek()]
 
     @property
     def move_stack(self) -> MoveStack:
         """The moves that were made: a list of the caller's own, which can't be changed."""
-        moves: List[Move] = []
-        for it, _ in self._past:
-            moves += [*map(OURS.__getitem__, it.move_stack), Move.null()]
-        if self._refusal is None:
-            moves += map(OURS.__getitem__, self._it.move_stack)
-        return MoveStack(moves)
+        return MoveStack([*moves_of(self._past), *(map(OURS.__getitem__, self._it.move_stack) if self._is_played() else ())])
 
     def find_move(self, from_square: Square, to_square: Square, promotion: Optional[PieceType] = None) -> Move:
         """The legal move from a square to a square, by default to a queen. Raises `IllegalMoveError`."""
@@ -578,7 +588,14 @@ class Board(BaseBoard):
     def parse_uci(self, uci: str) -> Move:
         """The legal move of a text as UCI has it. Raises `InvalidMoveError` or `IllegalMoveError`."""
         move = Move.from_uci(uci)
-        return OURS[self._game.parse_uci(uci)] if move else move
+        if not move:
+            return move
+        # (castling is also read as the king's move to its rook)
+        castles = () if self._game.is_legal(move) else self.generate_castling_moves(BB_SQUARES[move.from_square])
+        for it in castles:
+            if _CASTLES[it.to_square] == move.to_square:
+                return it
+        return OURS[self._game.parse_uci(uci)]
 
     def push_uci(self, uci: str) -> Move:
         """The same, and makes it."""
@@ -716,16 +733,7 @@ class Board(BaseBoard):
         if not self._past:
             return self._game.is_repetition(count)
         key = self._game.epd()
-        return self._it.repetitions() + sum(it == key for it in self._earlier()) >= count
-
-    # The positions before the last null move, as texts that are equal if the positions are.
-    def _earlier(self) -> Iterator[str]:
-        for board, _ in self._past:
-            it = board.copy()
-            yield it.epd()
-            while it.ply:
-                it.back()
-                yield it.epd()
+        return self._it.repetitions() + sum(it == key for it in positions_of(self._past)) >= count
 
     # Whether a legal move makes a position that has come up twice.
     def _can_repeat(self) -> bool:
@@ -757,7 +765,7 @@ class Board(BaseBoard):
     is_variant_win = is_variant_loss = is_variant_draw = is_variant_end
 
 
-def _restored(of: Type[_Of], board: _board.Board, fields: Optional[Fields], refusal: Optional[InvalidFenError], past: _Past = ()) -> _Of:
+def _restored(of: Type[_Of], board: _board.Board, fields: Optional[Fields], refusal: Optional[InvalidFenError], past: Past = ()) -> _Of:
     """The board of a pickle."""
     found = of._of(board)
     found._set, found._refusal, found._past = fields, refusal, past

@@ -4,10 +4,10 @@ from __future__ import annotations
 from typing import Dict, NamedTuple, Optional
 
 from .. import _board
-from ._names import SQUARE_NAMES, WHITE, Color, Piece, Square
+from ._names import MEN, SQUARE_NAMES, WHITE, Color, Piece, Square
 from ._placement import field_of, men_of
 
-__all__ = ["IN_CHECK", "NO_POSITION", "ROOKS", "TWO_KINGS", "Fields", "fields_from", "fields_of"]
+__all__ = ["IN_CHECK", "NO_POSITION", "ROOKS", "TWO_KINGS", "Fields", "fields_from", "fields_of", "fields_of_board"]
 
 # The square of the rook of each castling right, and the king's.
 ROOKS = {"K": (7, 4), "Q": (0, 4), "k": (63, 60), "q": (56, 60)}
@@ -53,3 +53,8 @@ def fields_of(fen: str) -> Fields:
 def fields_from(men: Dict[Square, Piece], turn: str, castling: str, target: str, clock: str, number: str) -> Fields:
     """The fields of these pieces and of the texts of the other five."""
     return Fields(men, turn == "w", castling, None if target == "-" else SQUARE_NAMES.index(target), int(clock), max(int(number), 1))
+
+
+def fields_of_board(board: _board.Board) -> Fields:
+    """The fields of the position of a board."""
+    return fields_from({square: MEN[letter] for square, letter in enumerate(board._men()) if letter}, *board.fen().split()[1:])
