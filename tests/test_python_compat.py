@@ -399,6 +399,8 @@ class Boards(unittest.TestCase):
             self.assertRaises(error, setattr, board, name, value)
         for kind in (chess.Board, chess.BaseBoard):
             self.assertRaises(TypeError, kind, 5)
+            self.assertRaises(ValueError, kind().pieces, 9, chess.WHITE)
+            self.assertRaises(ValueError, kind().piece_at, 64)
         self.assertRaises(chess.IllegalMoveError, board.push, chess.Move.from_uci("e2e5"))
         self.assertRaises(IndexError, board.pop)
         self.assertEqual(board, chess.Board())

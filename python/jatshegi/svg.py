@@ -11,7 +11,7 @@ from __future__ import annotations
 
 import html
 import math
-from typing import Any, Dict, Iterable, List, Mapping, NamedTuple, Optional, Tuple, Union
+from typing import Any, Dict, Iterable, Iterator, List, Mapping, NamedTuple, Optional, Tuple, Union
 
 from ._board import Board
 from ._checks import colour_of, one_of, square_of, text_of, whole
@@ -96,7 +96,7 @@ def _colours(colors: Mapping[str, str]) -> Dict[str, str]:
 
 
 # An arrow's or a ring's part of the picture.
-def _arrow(arrow: Arrow, at: Dict[int, Tuple[float, float]], colours: Mapping[str, str]) -> str:
+def _arrow(arrow: Arrow, at: Mapping[int, Tuple[float, float]], colours: Mapping[str, str]) -> str:
     (x1, y1), (x2, y2) = at[square_of(arrow.tail)], at[square_of(arrow.head)]
     x1, y1, x2, y2 = (it + _SIDE / 2 for it in (x1, y1, x2, y2))
     colour = _quoted(colours.get(f"arrow {arrow.color}", arrow.color))
@@ -174,28 +174,35 @@ def board(
     men = {square_of(square): Piece.from_symbol(man) for square, man in given.items()}
     filled, crossed = {square_of(it): colour for it, colour in fill.items()}, {square_of(it) for it in squares}
     last = set() if lastmove is None else {lastmove.from_square, lastmove.to_square}
+    checked = None if check is None else square_of(check)
     margin = _MARGIN if coordinates else 0
     full = 8 * _SIDE + 2 * margin
-    at: Dict[int, Tuple[float, float]] = {}
+    at = {square: _corner(square, orientation, margin) for square in range(64)}
     parts = [f'<svg xmlns="http://www.w3.org/2000/svg" viewBox="0 0 {full} {full}"{_sized(size)}><rect width="{full}" height="{full}" fill={_quoted(colours["margin"])}/>']
-    checked = None if check is None else square_of(check)
-    if checked is not None:
-        parts.append(_glow(colours["check"]))
-    for square in range(64):
-        at[square] = left, top = _corner(square, orientation, margin)
-        shade = "square light" if (square ^ square >> 3) & 1 else "square dark"
-        colour = filled.get(square, colours[f"{shade} lastmove" if square in last else shade])
-        parts.append(f'<rect x="{left}" y="{top}" width="{_SIDE}" height="{_SIDE}" fill={_quoted(colour)}><title>{SQUARE_NAMES[square]}</title></rect>')
-        if square == checked:
-            parts.append(f'<circle cx="{left + _SIDE // 2}" cy="{top + _SIDE // 2}" r="{_SIDE // 2}" fill="url(#check)"/>')
-        if square in men:
-            parts.append(f'<g transform="translate({left} {top})">{_man(men[square])}</g>')
-        if square in crossed:
-            parts.append(f'<path d="M{left + 8} {top + 8}l24 24m0-24l-24 24" stroke="#b3211b" stroke-width="4" opacity=".8"/>')
-    if coordinates:
-        parts += _names(orientation, full, colours["coord"])
+    parts += [] if checked is None else [_glow(colours["check"])]
+    for square, corner in at.items():
+        shade = _shade(square) + (" lastmove" if square in last else "")
+        parts += _square(square, corner, filled.get(square, colours[shade]), men.get(square), square == checked, square in crossed)
+    parts += _names(orientation, full, colours["coord"]) if coordinates else []
     parts += [_arrow(Arrow(*arrow), at, colours) for arrow in arrows]
     return "".join([*parts, "</svg>"])
+
+
+# The name of a square's colour.
+def _shade(square: int) -> str:
+    return "square light" if (square ^ square >> 3) & 1 else "square dark"
+
+
+# A square's parts of the picture.
+def _square(square: int, corner: Tuple[int, int], colour: str, man: Optional[Piece], is_checked: bool, is_crossed: bool) -> Iterator[str]:
+    left, top = corner
+    yield f'<rect x="{left}" y="{top}" width="{_SIDE}" height="{_SIDE}" fill={_quoted(colour)}><title>{SQUARE_NAMES[square]}</title></rect>'
+    if is_checked:
+        yield f'<circle cx="{left + _SIDE // 2}" cy="{top + _SIDE // 2}" r="{_SIDE // 2}" fill="url(#check)"/>'
+    if man is not None:
+        yield f'<g transform="translate({left} {top})">{_man(man)}</g>'
+    if is_crossed:
+        yield f'<path d="M{left + 8} {top + 8}l24 24m0-24l-24 24" stroke="#b3211b" stroke-width="4" opacity=".8"/>'
 
 
 # The names of the files and the ranks, on all four sides.

@@ -34,7 +34,7 @@ from ._names import (
 )
 from ._order import LegalMoveGenerator, MoveStack
 from ._past import Chapter, Past, last_moves, moves_of, positions_of, shortened
-from ._placement import men_of
+from ._placement import men_of, word_of
 
 _Of = TypeVar("_Of", bound="Board")
 
@@ -59,11 +59,10 @@ class Board(BaseBoard):
     def __init__(self, fen: Optional[str] = STARTING_FEN, *, chess960: bool = False) -> None:
         if chess960:
             refuse("there is no Chess960")
-        self._take(_board.Board())
-        if fen is None:
-            self._begin(Fields({}))
-        elif fen != STARTING_FEN:
-            self.set_fen(fen)
+        if fen is None or fen == STARTING_FEN or not self._is_plain(text_of(fen, "a FEN is a text")):
+            self._take(_board.Board())
+            if fen != STARTING_FEN:
+                self._begin(Fields({}) if fen is None else fields_of(fen))
 
     # A board of the library, from whose position on moves are made.
     def _take(self, board: _board.Board) -> None:
@@ -115,11 +114,18 @@ class Board(BaseBoard):
             return self._set.men
         return {square: MEN[letter] for square, letter in enumerate(self._it._men()) if letter}
 
+    def _squares_of(self, kind: Optional[PieceType], color: Optional[Color]) -> Bitboard:
+        return super()._squares_of(kind, color) if self._refusal is not None else word_of(self._it._men(), kind, color)
+
     def piece_at(self, square: Square) -> Optional[Piece]:
         """The piece on the square, or None."""
         if self._refusal is not None:
             return super().piece_at(square)
         return MEN.get(self._it._men()[square_of(square)])
+
+    def king(self, color: Color) -> Optional[Square]:
+        """The square of that side's king; None if there isn't one alone."""
+        return super().king(color) if self._refusal is not None else self._it.king(color)
 
     def _place(self, men: Dict[Square, Piece]) -> None:
         self._begin(self._fields()._replace(men=men))

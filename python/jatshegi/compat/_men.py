@@ -4,7 +4,7 @@ from __future__ import annotations
 from typing import Any, Callable, Dict, Mapping, Optional, Tuple, Type, TypeVar
 
 from .. import svg as _svg
-from .._checks import colour_of, square_of
+from .._checks import colour_of, square_of, whole
 from ._aside import attackers_among, attacks_among
 from ._names import (
     BB_ALL,
@@ -115,7 +115,7 @@ class BaseBoard:
 
     def pieces_mask(self, piece_type: PieceType, color: Color) -> Bitboard:
         """The squares of the pieces of that kind and colour."""
-        return self._squares_of(piece_type, colour_of(color))
+        return self._squares_of(whole(piece_type, "a kind is PAWN (1) to KING (6)", PAWN, KING), colour_of(color))
 
     def pieces(self, piece_type: PieceType, color: Color) -> SquareSet:
         """The same as a set."""

@@ -2,6 +2,7 @@
 from __future__ import annotations
 
 import enum
+import functools
 from typing import Callable, Dict, Iterable, Iterator, List, Literal, NoReturn, Optional, Tuple, Union
 
 from .. import _moves, _pieces, _sets
@@ -429,6 +430,7 @@ def _walk(a: Square, files: int, ranks: int) -> Iterator[Square]:
         file, rank = file + files, rank + ranks
 
 
+@functools.lru_cache(maxsize=4096)
 def ray(a: Square, b: Square) -> Bitboard:
     """The whole rank, file or diagonal with both squares; no square if there is none."""
     step = _step(square_of(a), square_of(b))
@@ -438,6 +440,7 @@ def ray(a: Square, b: Square) -> Bitboard:
     return BB_SQUARES[a] | sum(BB_SQUARES[it] for it in (*_walk(a, files, ranks), *_walk(a, -files, -ranks)))
 
 
+@functools.lru_cache(maxsize=4096)
 def between(a: Square, b: Square) -> Bitboard:
     """The squares between two squares of a rank, file or diagonal, without both."""
     step = _step(square_of(a), square_of(b))
