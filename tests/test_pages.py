@@ -206,6 +206,19 @@ class Pages(unittest.TestCase):
             with self.subTest(wrong_body=name):
                 self.assertEqual(dagger == "†", name in by_name)
 
+    def test_each_mistake_of_chess_programs_is_tried_by_the_gate(self):
+        """Its wrong bodies are in must-fail of their crates, and each changes a file that has a function of its row."""
+        part = text_of("docs/PROMISES.md").split("\n### Mistakes that chess programs make\n")[1].split("\n## ")[0]
+        rows = re.findall(r"^\| (?!Mistake|---)([^|]*) \| ([^|]*) \| ([^|]*) \| ([^|]*) \|$", part, flags=re.M)
+        self.assertEqual(len(rows), 27)
+        for mistake, crates, bodies, functions in rows:
+            wanted = re.findall(r"`(\w+)`", re.sub(r"\([^)]*\)", "", functions))
+            for body in re.findall(r"`(\w+)`", bodies):
+                with self.subTest(mistake=mistake, wrong_body=body):
+                    (edit,) = [path for crate in crates.split(", ") for path in glob.glob(f"crates/{crate}/must-fail/{body}.edit", root_dir=runs.TOP)]
+                    source = text_of(f"crates/{edit.split('/')[1]}/{re.search(r'^file: (.*)$', text_of(edit), flags=re.M)[1]}")
+                    self.assertTrue(any(re.search(rf"\bfn {name}\b", source) for name in wanted), wanted)
+
     def test_each_rule_shows_its_definition(self):
         laws = text_of("docs/LAWS.md")
         shown = {name for names in re.findall(r"<!-- from crates/chess_types/\S+: ([^>]*) -->", laws) for name in names.split()}
