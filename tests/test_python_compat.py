@@ -460,6 +460,8 @@ class Games(unittest.TestCase):
         moves = chess.pgn.read_game(io.StringIO(GAMES)).mainline_moves()
         self.assertEqual((len(list(moves)), len(list(moves)), [move.uci() for move in reversed(moves)][0]), (3, 3, "g1f3"))
         self.assertEqual((bool(moves), bool(chess.pgn.Game().mainline())), (True, False))
+        self.assertEqual((str(moves), str(chess.pgn.Game().mainline())), (moves.accept(chess.pgn.StringExporter(columns=None)), ""))
+        self.assertEqual(chess.pgn.read_game("1. e4 e5 (1... c5 {x}) 2. Nf3 *").next().mainline().accept(chess.pgn.StringExporter()), "1... e5 2. Nf3")
 
     def test_visitors(self):
         seen = []
@@ -603,6 +605,8 @@ class Engines(unittest.TestCase):
             info = engine.analyse(chess.Board(self.MATE), chess.engine.Limit(depth=2))
             self.assertEqual((info["pv"], info["score"].white().mate(), type(info["pv"][0])), ([chess.Move.from_uci("a1a8")], 1, chess.Move))
             self.assertRaises(ValueError, engine.play, chess.Board.empty(), chess.engine.Limit(depth=1))
+        made = chess.engine.PlayResult(chess.Move.from_uci("e2e4"), None, resigned=True)
+        self.assertEqual((made.info, made.draw_offered, made.resigned, "move=e2e4" in repr(made)), ({}, False, True, True))
         self.assertRaises(NotImplementedError, chess.engine.SimpleEngine.popen_xboard, ENGINE)
 
     def test_an_analysis_that_runs(self):

@@ -85,14 +85,16 @@ class AnalysisComplete(Exception):
     """The analysis has ended, and has nothing more to say."""
 
 
-class PlayResult(NamedTuple):
+class PlayResult:
     """The move that an engine plays, the answer that it awaits, and its information."""
 
-    move: Optional[Move]
-    ponder: Optional[Move]
-    info: InfoDict
-    draw_offered: bool = False
-    resigned: bool = False
+    def __init__(self, move: Optional[Move], ponder: Optional[Move], info: Optional[InfoDict] = None, *, draw_offered: bool = False, resigned: bool = False) -> None:
+        self.move, self.ponder = move, ponder
+        self.info: InfoDict = info or {}
+        self.draw_offered, self.resigned = draw_offered, resigned
+
+    def __repr__(self) -> str:
+        return f"<PlayResult at {id(self):#x} (move={self.move}, ponder={self.ponder}, info={self.info}, draw_offered={self.draw_offered}, resigned={self.resigned})>"
 
 
 class Opponent(NamedTuple):

@@ -72,6 +72,7 @@ __all__ = [
 __all__ += _nags.__all__
 
 _T = TypeVar("_T")
+_Result = TypeVar("_Result")
 
 # (the name that programs for python-chess give to `logging`)
 LOGGER = logging.getLogger("chess.pgn")
@@ -119,9 +120,16 @@ class Mainline(Generic[_T]):
     def __reversed__(self) -> Iterator[_T]:
         return map(self.f, reversed(list(self._nodes())))
 
+    def accept(self, visitor: BaseVisitor[_Result]) -> _Result:
+        """Shows the visitor the moves of the line, without other variations."""
+        board = self.start.board()
+        for node in self._nodes():
+            _show(node, board, visitor)
+            board.push(node.move)
+        return visitor.result()
+
     def __str__(self) -> str:
-        node = self.start.next()
-        return "" if node is None else node.accept(StringExporter(columns=None, variations=False))
+        return self.accept(StringExporter(columns=None))
 
     def __repr__(self) -> str:
         return f"<Mainline at {id(self):#x} ({self})>"
