@@ -3,8 +3,10 @@ import copy
 import importlib
 import io
 import logging
+import os
 import pickle
 import random
+import subprocess
 import sys
 import unittest
 
@@ -387,6 +389,16 @@ class Sets(unittest.TestCase):
                 mine, ours = chess.SquareSet(one), set(one)
                 getattr(mine, name)(theirs), getattr(ours, name)(other)
                 self.assertEqual(set(mine), ours, name)
+
+
+class ByCtypes(unittest.TestCase):
+    def test_the_same_by_ctypes(self):
+        """The calls above and those of test_python_compat, over the core that calls the library by ctypes."""
+        if os.environ.get("JATSHEGI_PLAIN"):
+            self.skipTest("this is the run by ctypes")
+        names = [*(f"test_python_compat_fuzz.{it}" for it in ("Boards", "Trees")), *(f"test_python_compat.{it}" for it in ("Boards", "Games", "Books"))]
+        ran = subprocess.run([sys.executable, "-m", "unittest", *names], cwd=f"{runs.TOP}/tests", env={**os.environ, "JATSHEGI_PLAIN": "1"}, capture_output=True, text=True)
+        self.assertEqual(ran.returncode, 0, ran.stderr[-3000:])
 
 
 if __name__ == "__main__":
