@@ -137,6 +137,14 @@ class BoardCalls:
             if (name, wrong) != ("ep_square", None):
                 self.refused((ValueError, TypeError, NotImplementedError), lambda: setattr(self.board, name, wrong))
 
+    def pass_and_back(self):
+        """Sets the side to move, and sets it back."""
+        was = seen(self.board)
+        for turn in (not was[3], was[3]):
+            self.board.turn = turn
+            self.case.assertEqual((self.board.turn, seen(self.board)[6:8]), (turn, was[6:8]))
+        self.case.assertEqual(seen(self.board), was)
+
     def begin(self):
         fen = self.chance.choice(FENS)
         self.board.set_fen(fen)
@@ -163,7 +171,7 @@ class BoardCalls:
             self.board.is_check(), self.board.is_pinned(chess.WHITE, 12), self.board.outcome(claim_draw=True), self.board.variation_san(moves[:1]), [self.board.is_irreversible(move) for move in moves], self.board.epd(bm=moves)
         self.case.assertEqual(seen(self.board), was)
 
-    CALLS = [push] * 9 + [push_text] * 2 + [pop] * 6 + [copies] * 2 + [short_copies, push_wrong, edit, fields, begin, begin_wrong, forget, ask]
+    CALLS = [push] * 9 + [push_text] * 2 + [pop] * 6 + [copies] * 2 + [short_copies, push_wrong, edit, fields, pass_and_back, begin, begin_wrong, forget, ask]
 
 
 class Boards(unittest.TestCase):
