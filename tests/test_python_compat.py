@@ -681,6 +681,21 @@ class Pages(unittest.TestCase):
         self.assertEqual([name for name in chess.__all__ if not hasattr(chess, name)], [])
 
 
+class Unchanged(unittest.TestCase):
+    def test_a_program_is_run_as_it_is(self):
+        """By `python -m jatshegi.compat`, with its words and its own folder; without a program the usage is an error."""
+        with tempfile.TemporaryDirectory() as folder:
+            for name, text in (("beside.py", "import chess.pgn\nGame = chess.pgn.Game"), ("program.py", "import sys, beside, chess\nfrom chess.pgn import Game\nprint(sys.argv[1:], beside.Game is Game, chess.Board().ply(), __name__)")):
+                with open(f"{folder}/{name}", "w", encoding="utf-8") as file:
+                    file.write(text)
+            words, environment = [sys.executable, "-m", "jatshegi.compat"], {**os.environ, "PYTHONPATH": PACKAGE}
+            ran = subprocess.run([*words, f"{folder}/program.py", "a", "-b"], env=environment, capture_output=True, text=True)
+            self.assertEqual((ran.stdout, ran.stderr), ("['a', '-b'] True 0 __main__\n", ""))
+            for more in ([], ["-h"], [f"{folder}/none.py"]):
+                ran = subprocess.run([*words, *more], env=environment, capture_output=True, text=True)
+                self.assertEqual((ran.returncode, ran.stdout, bool(ran.stderr)), (1, "", True))
+
+
 class Types(unittest.TestCase):
     def test_types(self):
         if not shutil.which("mypy"):

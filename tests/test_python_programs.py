@@ -73,13 +73,16 @@ class Programs(unittest.TestCase):
         os.symlink(ENGINE, f"{folder}/stockfish")
 
     def check(self, programs):
+        """Runs each program with its import lines changed over one core, and as it is by `python -m jatshegi.compat` over the other."""
         with tempfile.TemporaryDirectory() as folder:
             self.write_files(folder)
-            for plain in ("", "1"):
-                environment = {**os.environ, "PYTHONPATH": PACKAGE, "JATSHEGI_PLAIN": plain}
-                for name, program, wanted in programs:
-                    with self.subTest(program=name, plain=plain):
-                        ran = subprocess.run([sys.executable, "-c", changed(program)], env=environment, cwd=folder, capture_output=True, text=True, timeout=runs.MOST_SECONDS)
+            for name, program, wanted in programs:
+                with open(f"{folder}/program.py", "w", encoding="utf-8") as file:
+                    file.write(textwrap.dedent(program))
+                for plain, words in (("", ["-c", changed(program)]), ("1", ["-m", "jatshegi.compat", "program.py"])):
+                    environment = {**os.environ, "PYTHONPATH": PACKAGE, "JATSHEGI_PLAIN": plain}
+                    with self.subTest(program=name, words=words[0]):
+                        ran = subprocess.run([sys.executable, *words], env=environment, cwd=folder, capture_output=True, text=True, timeout=runs.MOST_SECONDS)
                         self.assertEqual((ran.stderr, ran.stdout.strip("\n")), ("", textwrap.dedent(wanted).strip("\n")))
 
 
