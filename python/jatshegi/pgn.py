@@ -835,7 +835,13 @@ def games(
     >>> [(repair.name, repair.place) for repair in repairs[0]]
     [('Hyphen', 3), ('Castling', 15), ('Illegal', 15)]
     """
-    encoding = None if encoding is None else _known(encoding)
+    yield from _games_in(source, bad, repaired, None if encoding is None else _known(encoding))
+
+
+# The games of a source, in a known encoding.
+def _games_in(
+    source: Union[str, bytes, "os.PathLike[str]", IO[Any]], bad: Optional[Callable[[InvalidGameError], object]], repaired: Optional[_Repaired], encoding: Optional[str]
+) -> Iterator[Game]:
     if isinstance(source, bytes):
         texts = _Texts(source)
         for data, place in _games_of(lambda: texts.next(repaired), bad):
@@ -850,7 +856,8 @@ def games(
             yield _game(data, "utf-8" if opened.is_text else encoding, place)
     else:
         with _opened(source) as file:
-            yield from games(file, bad, repaired, encoding=encoding)
+            yield from _games_in(file, bad, repaired, encoding)
+
 
 # Each class shows under the name by which it is found here.
 for _name in __all__:

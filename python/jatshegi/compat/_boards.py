@@ -1,7 +1,7 @@
 """The board of python-chess over the library's."""
 from __future__ import annotations
 
-from typing import Any, Callable, Dict, Iterable, Iterator, List, Optional, Tuple, Type, TypeVar, Union
+from typing import Any, Callable, Dict, Iterable, Iterator, Optional, Tuple, Type, TypeVar, Union
 
 from .. import _board
 from .. import _library as c
@@ -597,7 +597,7 @@ class Board(BaseBoard):
         if not move:
             return move
         # (castling is also read as the king's move to its rook)
-        castles = () if self._game.is_legal(move) else self.generate_castling_moves(BB_SQUARES[move.from_square])
+        castles: Iterable[Move] = () if self._game.is_legal(move) else self.generate_castling_moves(BB_SQUARES[move.from_square])
         for it in castles:
             if _CASTLES[it.to_square] == move.to_square:
                 return it

@@ -78,7 +78,8 @@ __all__ = [
 LOGGER = logging.getLogger("chess.engine")
 
 _Command = Union[str, List[str], Sequence[str]]
-_Options = ConfigMapping = Mapping[str, Union[str, int, bool, None]]
+ConfigMapping = Mapping[str, Union[str, int, bool, None]]
+_Options = ConfigMapping
 
 
 class AnalysisComplete(Exception):
@@ -456,7 +457,8 @@ class UciProtocol:
         await asyncio.to_thread(self._engine.quit)
 
 
-EngineProtocol = Protocol = UciProtocol
+EngineProtocol = UciProtocol
+Protocol = UciProtocol
 
 
 class Transport:

@@ -40,7 +40,7 @@ def _plain(book: _polyglot.Reader, place: int) -> Entry:
 
 
 def _between(random: Optional[_random.Random], least: int, most: int) -> int:
-    return (_random if random is None else random).randint(least, most)
+    return (random or _random).randint(least, most)
 
 
 class MemoryMappedReader:
