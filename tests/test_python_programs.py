@@ -1,7 +1,6 @@
 """Programs about boards as they are written for python-chess: they run over `jatshegi.compat` if their import lines are changed, and print what they print there."""
 import os
 import re
-import shutil
 import struct
 import subprocess
 import sys
@@ -84,18 +83,6 @@ class Programs(unittest.TestCase):
                     with self.subTest(program=name, words=words[0]):
                         ran = subprocess.run([sys.executable, *words], env=environment, cwd=folder, capture_output=True, text=True, timeout=runs.MOST_SECONDS)
                         self.assertEqual((ran.stderr, ran.stdout.strip("\n")), ("", textwrap.dedent(wanted).strip("\n")))
-
-
-def types_of(programs):
-    """The lines of mypy's errors in the programs, strictly."""
-    with tempfile.TemporaryDirectory() as folder:
-        for number, (_, program, _) in enumerate(programs):
-            with open(f"{folder}/program{number}.py", "w", encoding="utf-8") as file:
-                file.write(changed(program))
-        paths = [f"{folder}/program{number}.py" for number in range(len(programs))]
-        words = ["mypy", "--strict", "--disable-error-code", "no-untyped-def", "--disable-error-code", "no-untyped-call", "--cache-dir", f"{folder}/cache", *paths]
-        ran = subprocess.run(words, env={**os.environ, "MYPYPATH": PACKAGE}, capture_output=True, text=True)
-        return [line for line in ran.stdout.splitlines() if ": error" in line]
 
 
 PROGRAMS = [
@@ -748,11 +735,6 @@ class Boards(Programs):
 
     def test_programs_about_boards(self):
         self.check(PROGRAMS)
-
-    def test_types(self):
-        if not shutil.which("mypy"):
-            self.skipTest("mypy is not on the path")
-        self.assertEqual(types_of(PROGRAMS), [])
 
 
 if __name__ == "__main__":

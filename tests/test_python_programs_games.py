@@ -1,5 +1,4 @@
 """Programs about games, engines, books and pictures as they are written for python-chess: they run over `jatshegi.compat` if their import lines are changed."""
-import shutil
 import unittest
 
 import runs
@@ -736,11 +735,6 @@ class Games(test_python_programs.Programs):
 
     def test_programs_about_games(self):
         self.check(PROGRAMS)
-
-    def test_types(self):
-        if not shutil.which("mypy"):
-            self.skipTest("mypy is not on the path")
-        self.assertEqual(test_python_programs.types_of(PROGRAMS), [])
 
 
 if __name__ == "__main__":

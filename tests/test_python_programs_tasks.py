@@ -1,6 +1,5 @@
 """More programs as they are written for python-chess, each for a task: they run over `jatshegi.compat` if their import lines are changed."""
 import os
-import shutil
 import sys
 import unittest
 
@@ -439,11 +438,6 @@ class Tasks(test_python_programs.Programs):
 
     def test_programs_for_tasks(self):
         self.check(PROGRAMS)
-
-    def test_types(self):
-        if not shutil.which("mypy"):
-            self.skipTest("mypy is not on the path")
-        self.assertEqual(test_python_programs.types_of(PROGRAMS), [])
 
 
 if __name__ == "__main__":
