@@ -2,8 +2,9 @@
  * jatshegi, the engine for front ends (UCI): lines, slices of a search and moments of the clock go to a session of the proved library as they come, and what
  * it replies goes out. There is no chess in it: what an event does, and when a search is over, the session decides.
  *
- * While a search runs, a second thread looks at the input and the clock every few milliseconds. Where there is input, or the search's time is over, it sets a
- * flag, which has the root that is being searched abandoned. The session is then as before it, and the input or the moment is the next event.
+ * While a root is searched, a second thread reads the input and looks at the clock. It answers each line that leaves the search running, and the search goes on
+ * meanwhile. A line that ends the search stays for the first thread. For such a line, and at the end of the search's time, the second thread sets a flag, and
+ * the library abandons the root. The session is then as before that root, and the line or the moment is its next event.
  */
 #define _XOPEN_SOURCE 700
 #include <errno.h>
@@ -26,7 +27,10 @@
 enum {
     MOST_LINE = 1048576,  /* bytes of a line, without its line feed, as `chess uci` has it */
     TICK = 4,             /* milliseconds at most between two looks at the input and the clock in a search */
+    RESERVE = 50,         /* milliseconds of its share that a search by the clock leaves for latency; at most half of the share */
+    SETTLED_DEPTH = 4,    /* the depth at which a timed search ends if there is one root alone; a `go` without words searches as deep */
     REPORT = 1000,        /* milliseconds between two lines `info time` in a search, and before the first root is named */
+    MOST_DEPTH = 16,      /* plies of the deepest search */
     REPLY_DEPTH = 3, REPLY_NODES = 20000  /* how deep a reply is searched at most for the line of best replies, and the positions for all of them */
 };
 
@@ -34,19 +38,37 @@ enum {
 static struct {
     char bytes[MOST_LINE + 1];
     size_t begin, end;
-    bool is_too_long;
+    bool is_too_long, has_ended;
 } input;
-static atomic_bool input_has_ended;
 
-/* The search that runs: when it began, the positions visited, and when they were last reported; the last whole depth, and the roots searched since. */
+/* A line of the input, and how many bytes it takes there with its line feed. */
+struct line {
+    const char *text;
+    size_t length, taken;
+    bool is_too_long;
+};
+
+/*
+ * The search that runs: when it began, the positions visited, and when they were last reported; the last whole depth, and the roots searched since. A timed one
+ * ends when it is due, or once no greater depth can change its move.
+ */
 static struct {
-    bool runs;
-    uint64_t begin, visited, reported, depth, root;
+    bool runs, is_infinite, is_timed, is_settled;
+    uint64_t begin, visited, reported, depth, root, due;
 } search;
+
+/* The line of best moves that is reported with a depth: the replies to its first move. */
+static struct {
+    struct jatshegi_move moves[MOST_DEPTH];
+    size_t count;
+} replies_after;
 
 static struct jatshegi_keys keys;
 static struct jatshegi_board board;
 static FILE *record;
+
+/* A session that always searches. It says which lines end a search, and what a session replies to the lines that don't: they change nothing in it. */
+static struct jatshegi_board twin;
 
 /* The flag that has a root abandoned, by two handles: the search's and the second thread's. */
 static struct jatshegi_stop stop, stopper;
@@ -55,13 +77,16 @@ static struct jatshegi_stop stop, stopper;
 static struct jatshegi_board position, ahead;
 static bool is_known, are_all_roots;
 
-/* What the second thread does: it watches, up to a moment at the latest, or rests, or is to end. The lock is held by who reads or writes it. */
+/*
+ * What the second thread does: it watches a search, rests, or is to end. The lock goes with the input, the output, the record and the search: the first thread
+ * holds it, except while a root is searched. It ends the watch before it asks for the lock, so that a flood of lines can't keep it waiting.
+ */
 static struct {
     pthread_mutex_t lock;
     pthread_cond_t changed;
-    bool runs, is_over;
-    uint64_t due;
-} watch = {PTHREAD_MUTEX_INITIALIZER, PTHREAD_COND_INITIALIZER, false, false, UINT64_MAX};
+    atomic_bool runs;
+    bool is_over;
+} watch = {PTHREAD_MUTEX_INITIALIZER, PTHREAD_COND_INITIALIZER, false, false};
 
 static uint64_t now(void) {
     struct timespec time;
@@ -69,8 +94,9 @@ static uint64_t now(void) {
     return (uint64_t)time.tv_sec * 1000 + (uint64_t)time.tv_nsec / 1000000;
 }
 
-static void fail(const char *what) {
-    fprintf(stderr, "jatshegi: %s\n", what);
+/* Ends the program: something failed, with the system's number of the error. */
+static void fail(const char *what, int error) {
+    fprintf(stderr, "jatshegi: %s: %s\n", what, strerror(error));
     exit(3);
 }
 
@@ -86,7 +112,12 @@ static void note(const char *event, const char *text, size_t length) {
     if (!record) return;
     fputs(event, record);
     fwrite(text, 1, length, record);
-    if (putc('\n', record) == EOF) fail("the record can't be written");
+    if (putc('\n', record) == EOF) fail("the record can't be written", errno);
+}
+
+/* Has what was written go out. */
+static void flush(void) {
+    if (fflush(stdout) == EOF) fail("the replies can't be written", errno);
 }
 
 /* Of a search: the milliseconds, the positions and the positions a second. */
@@ -102,57 +133,83 @@ static void write_move(struct jatshegi_move move) {
     printf(" %.*s", (int)length, text);
 }
 
-/* Writes the best replies after a move that was searched so deep, each found by a search of its own, as far as the flag, memory and positions go. */
-static void write_line_after(const char *text, size_t length, uint64_t depth) {
-    uint64_t left = REPLY_NODES, visited;
+/* The first place of the words in a text, and its end if they aren't in it. */
+static const char *find(const char *text, const char *end, const char *words) {
+    size_t length = strlen(words);
+    while ((size_t)(end - text) >= length && memcmp(text, words, length)) text++;
+    return (size_t)(end - text) >= length ? text : end;
+}
+
+static bool begins_with(const char *text, const char *end, const char *words) {
+    return (size_t)(end - text) >= strlen(words) && !memcmp(text, words, strlen(words));
+}
+
+static const char report[] = "info depth ", line_of_best[] = " pv ";
+
+/* Looks for the best replies after the move of a report, each by a search of its own, as far as the flag, memory and positions go. */
+static void search_replies(const char *reply, const char *end) {
+    uint64_t left = REPLY_NODES, visited, depth;
     struct jatshegi_move move;
+    const char *text;
     int32_t value;
     bool added;
-    if (!is_known || jatshegi_move_read(text, length, &move) != JATSHEGI_OK || jatshegi_board_copy(&position, &ahead) != JATSHEGI_OK) return;
-    while (depth-- > 1 && jatshegi_board_play(&ahead, move, &added) == JATSHEGI_OK) {
+    replies_after.count = 0;
+    if (!is_known || !begins_with(reply, end, report)) return;
+    depth = strtoul(reply + strlen(report), NULL, 10);
+    text = find(reply, end, line_of_best);
+    if (text < end) text += strlen(line_of_best);
+    if (jatshegi_move_read(text, (size_t)(end - text), &move) != JATSHEGI_OK || jatshegi_board_copy(&position, &ahead) != JATSHEGI_OK) return;
+    while (depth-- > 1 && replies_after.count < MOST_DEPTH && jatshegi_board_play(&ahead, move, &added) == JATSHEGI_OK) {
         uint8_t plies = (uint8_t)(depth < REPLY_DEPTH ? depth : REPLY_DEPTH);
         if (jatshegi_board_best_within(&ahead, plies, left, &stop, &move, &value, &visited) != JATSHEGI_OK) return;
-        write_move(move);
+        replies_after.moves[replies_after.count++] = move;
         left -= visited;
     }
 }
 
-/* Writes a reply: the engine has its own name here, and the report of a depth says besides what it took, and the best replies. */
-static void write_reply(const char *reply, size_t length) {
-    static const char name[] = "id name ", depth[] = "info depth ", moves[] = " pv ";
-    const char *last = length < sizeof depth - 1 || memcmp(reply, depth, sizeof depth - 1) ? NULL : reply;
-    if (length >= sizeof name - 1 && !memcmp(reply, name, sizeof name - 1)) {
-        printf("id name Jatshegi " VERSION "\n");
-        return;
-    }
-    while (last && last + sizeof moves - 1 <= reply + length && memcmp(last, moves, sizeof moves - 1)) last++;
-    fwrite(reply, 1, last ? (size_t)(last - reply) : length, stdout);
-    if (last) {
-        write_effort();
-        fwrite(last, 1, length - (size_t)(last - reply), stdout);
-        search.depth = strtoul(reply + sizeof depth - 1, NULL, 10);
-        search.root = 0;
-        write_line_after(last + sizeof moves - 1, length - (size_t)(last - reply) - (sizeof moves - 1), search.depth);
-    }
+/* Writes the report of a depth, with what it took and the best replies. A mate is the value at each greater depth, too; and one root is the move at each. */
+static void write_report(const char *reply, const char *end) {
+    const char *last = find(reply, end, line_of_best);
+    fwrite(reply, 1, (size_t)(last - reply), stdout);
+    write_effort();
+    fwrite(last, 1, (size_t)(end - last), stdout);
+    for (size_t at = 0; at < replies_after.count; at++) write_move(replies_after.moves[at]);
     putchar('\n');
+    search.depth = strtoul(reply + strlen(report), NULL, 10);
+    search.is_settled = find(reply, last, " score mate ") < last || (search.root == 1 && search.depth >= SETTLED_DEPTH);
+    search.root = 0;
 }
 
-/* Writes the replies to an event, and sees whether a search has begun or ended with it. */
-static void reply(const char *replies, size_t count) {
+/* Writes the replies. The engine has its own name and author here. */
+static void write_replies(const char *replies, size_t count) {
     const char *end = replies + count;
+    for (const char *next; replies < end; replies = next + 1) {
+        next = find(replies, end, "\n");
+        if (begins_with(replies, next, "id name ")) {
+            printf("id name Jatshegi " VERSION "\n");
+        } else if (begins_with(replies, next, "id author ")) {
+            printf("id author the Jatshegi authors\n");
+        } else if (begins_with(replies, next, report)) {
+            write_report(replies, next);
+        } else {
+            fwrite(replies, 1, (size_t)(next - replies), stdout);
+            putchar('\n');
+        }
+    }
+    flush();
+}
+
+/* Sees whether a search has begun or ended with an event, and writes the replies to it. */
+static void reply(const char *replies, size_t count) {
     bool runs;
     check(jatshegi_engine_searching(&board, &runs));
     if (runs && !search.runs) {
         search.begin = search.reported = now();
         search.visited = search.root = search.depth = 0;
+        search.is_settled = false;
     }
     search.runs = runs;
-    for (const char *next; replies < end; replies = next + 1) {
-        next = memchr(replies, '\n', (size_t)(end - replies));
-        if (!next) fail("a reply has no line feed");
-        write_reply(replies, (size_t)(next - replies));
-    }
-    if (fflush(stdout) == EOF) fail("the replies can't be written");
+    write_replies(replies, count);
 }
 
 static void take_moment(void) {
@@ -199,48 +256,167 @@ static bool follow(const char *line, const char *end) {
     return true;
 }
 
+/* Sees by which clock a search is to end that has begun: by `movetime`, which it uses up, or by its share of a game's clock. */
+static void begin_clock(const char *line, const char *end) {
+    uint64_t left = 0, reserve = 0;
+    uint32_t timed = jatshegi_engine_time_left(&board, &left);
+    if (timed != JATSHEGI_NONE) check(timed);
+    check(jatshegi_engine_infinite(&board, &search.is_infinite));
+    search.is_timed = timed == JATSHEGI_OK;
+    if (!names(line, end, "movetime")) reserve = left / 2 < RESERVE ? left / 2 : RESERVE;
+    search.due = search.is_timed ? search.begin + left - reserve : UINT64_MAX;
+}
+
 static void take_line(const char *line, size_t length) {
     char replies[JATSHEGI_MOST_REPLIES];
     size_t count;
+    bool searched = search.runs;
     if (!search.runs) are_all_roots = !names(line, line + length, "searchmoves");
     take_moment();
     note("line ", line, length);
     check(jatshegi_engine_line(&board, line, length, replies, sizeof replies, &count));
     if (!count && (names(line, line + length, "position") || names(line, line + length, "ucinewgame"))) is_known = follow(line, line + length);
     reply(replies, count);
+    if (search.runs && !searched) begin_clock(line, line + length);
 }
 
-/* Has the second thread watch up to a moment, or rest. */
-static void set_watch(bool runs, uint64_t due) {
+static void refuse_long_line(void) {
+    printf("info string line too long\n");
+    flush();
+}
+
+/* Reads what there is; waits for it if there is nothing. At the end of the input nothing comes any more. */
+static void read_more(void) {
+    ssize_t count;
+    if (input.begin) {
+        memmove(input.bytes, input.bytes + input.begin, input.end - input.begin);
+        input.end -= input.begin;
+        input.begin = 0;
+    }
+    count = read(STDIN_FILENO, input.bytes + input.end, sizeof input.bytes - input.end);
+    if (count < 0 && errno != EINTR && errno != EAGAIN) fail("the input can't be read", errno);
+    if (count == 0) input.has_ended = true;
+    if (count > 0) input.end += (size_t)count;
+}
+
+/* Reads what there is, without waiting. */
+static void read_at_hand(void) {
+    struct pollfd ready = {STDIN_FILENO, POLLIN, 0};
+    if (!input.has_ended && poll(&ready, 1, 0) > 0) read_more();
+}
+
+/* The next line, if a whole one was read; the last one may have no line feed. */
+static bool next_line(struct line *line) {
+    const char *text = input.bytes + input.begin, *end = memchr(text, '\n', input.end - input.begin);
+    size_t length = end ? (size_t)(end - text) : input.end - input.begin;
+    bool is_last = !end && input.has_ended && (length || input.is_too_long);
+    if (!end && !is_last) {
+        if (length == sizeof input.bytes) {
+            input.is_too_long = true;
+            input.begin = input.end;
+        }
+        return false;
+    }
+    *line = (struct line){text, length, length + (end ? 1 : 0), input.is_too_long};
+    return true;
+}
+
+/* The line is taken from the input. */
+static void drop(const struct line *line) {
+    input.begin += line->taken;
+    input.is_too_long = false;
+}
+
+/* Takes the next line, if a whole one was read. */
+static bool take_next_line(void) {
+    struct line line;
+    if (!next_line(&line)) return false;
+    drop(&line);
+    if (line.is_too_long) {
+        refuse_long_line();
+    } else {
+        take_line(line.text, line.length);
+    }
+    return true;
+}
+
+/* Has the twin search, so that it knows which lines end a search. */
+static void begin_twin(void) {
+    char replies[JATSHEGI_MOST_REPLIES];
+    size_t count;
+    check(jatshegi_engine_line(&twin, "go infinite", strlen("go infinite"), replies, sizeof replies, &count));
+}
+
+/* Answers a line for the session that searches, if the line doesn't end the search. */
+static bool answer_line(const struct line *line) {
+    char replies[JATSHEGI_MOST_REPLIES];
+    size_t count;
+    bool goes_on;
+    check(jatshegi_engine_line(&twin, line->text, line->length, replies, sizeof replies, &count));
+    check(jatshegi_engine_searching(&twin, &goes_on));
+    if (!goes_on) {
+        begin_twin();
+        return false;
+    }
+    note("line ", line->text, line->length);
+    write_replies(replies, count);
+    return true;
+}
+
+/* Answers the lines that come while a root is searched. Says whether the input ends the search: by a line, or by its end if the search is infinite. */
+static bool answer_lines(void) {
+    struct line line;
+    read_at_hand();
+    while (next_line(&line)) {
+        if (!atomic_load(&watch.runs)) return false;
+        if (line.is_too_long) {
+            refuse_long_line();
+        } else if (!answer_line(&line)) {
+            return true;
+        }
+        drop(&line);
+    }
+    return input.has_ended && search.is_infinite;
+}
+
+/* Waits until a root is searched, with the lock; false if the thread is to end. */
+static bool wait_for_search(void) {
+    while (!atomic_load(&watch.runs) && !watch.is_over) pthread_cond_wait(&watch.changed, &watch.lock);
+    return !watch.is_over;
+}
+
+/* When a search ends by time; before depth 1 is complete no time ends it, since it has no move yet. */
+static uint64_t end_by_time(void) { return search.depth ? search.due : UINT64_MAX; }
+
+/* The second thread. After the end of the input it watches the clock alone. */
+static void *watch_search(void *none) {
     pthread_mutex_lock(&watch.lock);
-    watch.runs = runs;
-    watch.due = due;
+    while (wait_for_search()) {
+        struct pollfd ready = {input.has_ended ? -1 : STDIN_FILENO, POLLIN, 0};
+        uint64_t due = end_by_time(), moment = now(), left = due > moment ? due - moment : 0;
+        bool comes;
+        pthread_mutex_unlock(&watch.lock);
+        comes = poll(&ready, 1, left < TICK ? (int)left : TICK) > 0;
+        pthread_mutex_lock(&watch.lock);
+        if (!atomic_load(&watch.runs) || ((!comes || !answer_lines()) && now() < end_by_time())) continue;
+        check(jatshegi_stop_set(&stopper, true));
+        atomic_store(&watch.runs, false);
+    }
+    pthread_mutex_unlock(&watch.lock);
+    return none;
+}
+
+/* Has the second thread watch while a root is searched: what goes with the lock is then its own. */
+static void begin_watch(void) {
+    check(jatshegi_stop_set(&stop, false));
+    atomic_store(&watch.runs, true);
     pthread_cond_signal(&watch.changed);
     pthread_mutex_unlock(&watch.lock);
 }
 
-/* Waits until it is to watch, and up to when; false where it is to end. */
-static bool wait_for_search(uint64_t *due) {
-    bool goes_on;
+static void end_watch(void) {
+    atomic_store(&watch.runs, false);
     pthread_mutex_lock(&watch.lock);
-    while (!watch.runs && !watch.is_over) pthread_cond_wait(&watch.changed, &watch.lock);
-    goes_on = !watch.is_over;
-    *due = watch.due;
-    pthread_mutex_unlock(&watch.lock);
-    return goes_on;
-}
-
-/* The second thread. Where the input has ended it watches the clock alone. */
-static void *watch_search(void *none) {
-    uint64_t due;
-    while (wait_for_search(&due)) {
-        struct pollfd ready = {atomic_load(&input_has_ended) ? -1 : STDIN_FILENO, POLLIN, 0};
-        uint64_t moment = now(), left = due > moment ? due - moment : 0;
-        bool comes = poll(&ready, 1, left < TICK ? (int)left : TICK) > 0;
-        if (comes || now() >= due) check(jatshegi_stop_set(&stopper, true));
-        if (comes) poll(NULL, 0, 1);
-    }
-    return none;
 }
 
 /* Names the root that is searched next, in a long search: all legal moves are searched in their order. */
@@ -253,69 +429,38 @@ static void name_root(void) {
     printf("info depth %" PRIu64 " currmove", search.depth + 1);
     write_move(moves[search.root]);
     printf(" currmovenumber %" PRIu64 "\n", search.root + 1);
-    if (fflush(stdout) == EOF) fail("the replies can't be written");
+    flush();
+}
+
+/* Ends a timed search that is due, or that has nothing left to find, as `stop` does. */
+static void end_in_time(void) {
+    if (search.depth) take_moment();
+    if (search.runs && search.is_timed && (search.is_settled || now() >= end_by_time())) take_line("stop", strlen("stop"));
 }
 
 /* Searches one root more, as far as the flag and the clock let it; then the clock is read. */
 static void take_slice(void) {
     char replies[JATSHEGI_MOST_REPLIES];
     size_t count;
-    uint64_t left, visited;
+    uint64_t visited;
     bool searched;
-    uint32_t timed = jatshegi_engine_time_left(&board, &left);
-    if (timed != JATSHEGI_NONE) check(timed);
     name_root();
-    check(jatshegi_stop_set(&stop, false));
-    set_watch(true, timed == JATSHEGI_OK ? now() + left : UINT64_MAX);
+    begin_watch();
     check(jatshegi_engine_slice_within(&board, UINT64_MAX, &stop, &searched, &visited, replies, sizeof replies, &count));
+    search_replies(replies, find(replies, replies + count, "\n"));
+    end_watch();
     search.visited += visited;
     if (searched) note("slice", "", 0);
     search.root += searched;
     reply(replies, count);
-    if (search.runs) take_moment();
+    if (search.runs) end_in_time();
     if (search.runs && now() - search.reported >= REPORT) {
         printf("info");
         write_effort();
         putchar('\n');
+        flush();
         search.reported = now();
     }
-}
-
-/* Reads what there is; waits for it where there is none. At the end of the input nothing comes any more. */
-static void read_more(void) {
-    ssize_t count;
-    if (input.begin) {
-        memmove(input.bytes, input.bytes + input.begin, input.end - input.begin);
-        input.end -= input.begin;
-        input.begin = 0;
-    }
-    count = read(STDIN_FILENO, input.bytes + input.end, sizeof input.bytes - input.end);
-    if (count < 0 && errno != EINTR && errno != EAGAIN) fail("the input can't be read");
-    if (count == 0) atomic_store(&input_has_ended, true);
-    if (count > 0) input.end += (size_t)count;
-}
-
-/* Takes the next line, if a whole one was read; the last one may have no line feed. */
-static bool take_next_line(void) {
-    char *line = input.bytes + input.begin, *end = memchr(line, '\n', input.end - input.begin);
-    bool is_last = !end && atomic_load(&input_has_ended) && (input.begin < input.end || input.is_too_long);
-    bool is_long = input.is_too_long;
-    size_t length = end ? (size_t)(end - line) : input.end - input.begin;
-    if (!end && !is_last) {
-        if (length < sizeof input.bytes) return false;
-        input.is_too_long = true;
-        input.begin = input.end;
-        return false;
-    }
-    input.begin += length + (end ? 1 : 0);
-    input.is_too_long = false;
-    if (is_long) {
-        printf("info string line too long\n");
-        if (fflush(stdout) == EOF) fail("the replies can't be written");
-    } else {
-        take_line(line, length);
-    }
-    return true;
 }
 
 /* One of the questions of the session: jatshegi_engine_ended, .. */
@@ -339,9 +484,8 @@ static void run(void) {
     struct pollfd ready = {STDIN_FILENO, POLLIN, 0};
     while (!is(jatshegi_engine_ended)) {
         bool searches = search.runs && !is(jatshegi_engine_waiting);
-        if (!searches) set_watch(false, UINT64_MAX);
         if (take_next_line()) continue;
-        if (atomic_load(&input_has_ended)) {
+        if (input.has_ended) {
             take_end();
         } else if (poll(&ready, 1, searches ? 0 : -1) > 0) {
             read_more();
@@ -352,12 +496,13 @@ static void run(void) {
 }
 
 /* Ends the second thread. */
-static void end_watch(pthread_t second) {
-    pthread_mutex_lock(&watch.lock);
+static void end_second(pthread_t second) {
+    int error;
     watch.is_over = true;
     pthread_cond_signal(&watch.changed);
     pthread_mutex_unlock(&watch.lock);
-    if (pthread_join(second, NULL)) fail("the second thread doesn't end");
+    error = pthread_join(second, NULL);
+    if (error) fail("the second thread doesn't end", error);
 }
 
 static const char help[] =
@@ -377,23 +522,29 @@ static int end_with(FILE *to, const char *text, int status) {
 
 int main(int count, char **words) {
     pthread_t second;
+    int error;
     if (count == 2 && (!strcmp(words[1], "-h") || !strcmp(words[1], "--help"))) return end_with(stdout, help, 0);
     if (count == 2 && (!strcmp(words[1], "-V") || !strcmp(words[1], "--version"))) return end_with(stdout, "jatshegi " VERSION "\n", 0);
     if (count != 1 && !(count == 3 && !strcmp(words[1], "--record"))) return end_with(stderr, help, 1);
-    if (count == 3 && !(record = fopen(words[2], "w"))) fail("the record can't be written");
+    if (count == 3 && !(record = fopen(words[2], "w"))) fail("the record can't be written", errno);
     jatshegi_keys_fill(&keys);
     check(jatshegi_board_new(&keys, &board));
     is_known = jatshegi_board_new(&keys, &position) == JATSHEGI_OK;
     check(jatshegi_stop_new(&stop));
     check(jatshegi_stop_share(&stop, &stopper));
-    if (pthread_create(&second, NULL, watch_search, NULL)) fail("there is no second thread");
+    check(jatshegi_board_new(&keys, &twin));
+    begin_twin();
+    pthread_mutex_lock(&watch.lock);
+    error = pthread_create(&second, NULL, watch_search, NULL);
+    if (error) fail("there is no second thread", error);
     run();
-    end_watch(second);
+    end_second(second);
     jatshegi_stop_free(&stopper);
     jatshegi_stop_free(&stop);
+    jatshegi_board_free(&twin);
     jatshegi_board_free(&ahead);
     jatshegi_board_free(&position);
     jatshegi_board_free(&board);
-    if (record && fclose(record)) fail("the record can't be written");
+    if (record && fclose(record)) fail("the record can't be written", errno);
     return 0;
 }

@@ -21,6 +21,7 @@ RELEASED = f"{runs.TOP}/release/x86_64-linux/bin/jatshegi"
 # Of a search that is far from its end: a machine with much else to do may take this number of seconds to answer.
 SOON = 60
 SHARP = "q2k3r/1q5q/8/8/1b6/8/QP4PQ/R2K3q w - - 0 1"
+KIWIPETE = "r3k2r/p1ppqpb1/bn2pnp1/3PN3/1p2P3/2N2Q1p/PPPBBPPP/R3K2R w KQkq - 0 1"
 ONE_MOVE = "r1bqk2r/pppp1Qpp/2n2n2/2b1p3/4P3/8/PPPP1PPP/RNB1KBNR b KQkq - 0 4"
 POSITIONS = ["startpos", f"fen {SHARP}", f"fen {ONE_MOVE}", "startpos moves f2f3 e7e5 g2g4 d8h4", "startpos moves e2e4 e7e5", "startpos moves e2e5"]
 SEARCHES = ["depth 1", "depth 3", "depth 16", "infinite", "movetime 1", "movetime 40", "wtime 800 btime 900 winc 10 binc 10", "infinite searchmoves e2e4"]
@@ -79,6 +80,7 @@ class Program:
 def plain(line):
     """The session's own line: without the effort and the replies to the move, and by the session's name."""
     line = re.sub(r" time \d+ nodes \d+ nps \d+( pv \w+)?.*", lambda found: found[1] or "", line)
+    line = re.sub(r"id author the Jatshegi authors", "id author chess_uci project", line)
     return re.sub(r"id name Jatshegi .*", "id name chess_uci 1", line)
 
 
@@ -200,6 +202,94 @@ class TheEngine(unittest.TestCase):
             self.assertIsNotNone(engine.wait("bestmove .*"), fen)
             self.assertEqual(engine.end(), 0)
 
+    def search_among(self, lines):
+        """Searches six plies while it says these lines again and again. Returns the depths with their positions, the lines said, and the answers."""
+        engine, said = Program(), []
+        engine.say(f"position fen {KIWIPETE}")
+        engine.say("go infinite")
+        end = time.monotonic() + SOON
+        while not any(it.startswith("info depth 6 score") for it in engine.lines) and time.monotonic() < end:
+            if lines:
+                said.append(lines[len(said) % len(lines)])
+                engine.say(said[-1])
+                # (the beginning of the next line)
+                engine.process.stdin.write(b" ")
+                engine.process.stdin.flush()
+            engine.read(0.004)
+        engine.say("stop")
+        engine.wait("bestmove .*")
+        self.assertEqual(engine.end(), 0)
+        depths = [re.findall(r"depth (\d) .* nodes (\d+) ", it)[0] for it in engine.lines if " score " in it]
+        return depths[:6], said, [it for it in engine.lines if not re.match("info (depth|time)|bestmove|id ", it)]
+
+    def test_lines_that_leave_a_search_running(self):
+        """The engine answers each, and visits as many positions at each depth as in a search without lines."""
+        busy, long = ["info string busy"], "isready" + " " * 1048570
+        forms = {
+            "isready": ["readyok"], "uci": ["option name .*", "uciok"], long: ["info string line too long"],
+            "debug on": [], "ponderhit": [], "": [], "nothing": [], "position startpos": busy, "ucinewgame": busy,
+            "go depth 1": busy, "setoption name Claims value true": busy, "go infinite searchmoves e2e4": busy,
+        }
+        undisturbed = self.search_among([])
+        self.assertEqual([depth for depth, _ in undisturbed[0]], ["1", "2", "3", "4", "5", "6"])
+        depths, said, answers = self.search_among(list(forms))
+        self.assertEqual(depths, undisturbed[0])
+        for form, answer in zip([it for line in said for it in forms[line]], answers, strict=True):
+            self.assertRegex(answer, f"^{form}$")
+
+    def test_nothing_left_to_find(self):
+        """A timed search ends with a mate, and at depth 4 with one root; other searches go on."""
+        mates, mated, clock = "6k1/5ppp/8/8/8/8/5PPP/R5K1 w - - 0 1", "k7/7p/1K6/8/8/8/8/6R1 b - - 0 1", "wtime 600000 btime 600000"
+        for fen, go, depth, score, move in (
+            (mates, clock, 1, "mate 1", "a1a8"),
+            (mates, "movetime 20000", 1, "mate 1", "a1a8"),
+            (mated, clock, 2, "mate -1", "h7h5"),
+            (ONE_MOVE, clock, 4, None, "e8f7"),
+            (ONE_MOVE, "movetime 20000", 4, None, "e8f7"),
+            ("4k3/8/8/8/8/8/8/4K2R w K - 0 1", f"{clock} searchmoves h1h7", 4, None, "h1h7"),
+            (mates, "depth 3", 3, "mate 1", "a1a8"),
+            (ONE_MOVE, "depth 5", 5, None, "e8f7"),
+        ):
+            engine = Program()
+            engine.say(f"position fen {fen}")
+            engine.say(f"go {go}")
+            self.assertEqual(engine.wait("bestmove .*"), f"bestmove {move}", (fen, go))
+            self.assertEqual(engine.end(), 0)
+            report = [it for it in engine.lines if " score " in it][-1]
+            self.assertRegex(report, rf"info depth {depth} score {score or 'cp .*'} time ", (fen, go))
+
+    def test_an_infinite_search_with_a_mate_goes_on(self):
+        engine = Program()
+        engine.say("position fen k7/7p/1K6/8/8/8/8/6R1 b - - 0 1")
+        engine.say("go infinite")
+        self.assertIsNotNone(engine.wait("info depth 5 score mate -1 .*"))
+        self.assertEqual([it for it in engine.lines if it.startswith("bestmove")], [])
+        engine.say("stop")
+        self.assertEqual(engine.wait("bestmove .*"), "bestmove h7h5")
+        self.assertEqual(engine.end(), 0)
+
+    def test_the_clock(self):
+        """A search by a game's clock ends before its share, of 75 ms here, is over; one by `movetime` doesn't. Depth 1 is completed in any time."""
+        engine, took = Program(), []
+        for go, tries in (("wtime 500 btime 500 winc 100 binc 100", 40), ("movetime 75", 4)):
+            for _ in range(tries):
+                engine.say("isready")
+                engine.wait("readyok")
+                begin = time.monotonic()
+                engine.say(f"go {go}")
+                engine.wait("bestmove .*")
+                took.append(1000 * (time.monotonic() - begin))
+                if took[-1] < 74:
+                    break
+        self.assertLess(min(took[:-4]), 74)
+        self.assertGreaterEqual(min(took[-4:]), 74)
+        for go in ("movetime 0", "wtime 0 btime 0", "wtime 1 btime 1 winc 0 binc 0", "movetime 1"):
+            seen = len(engine.lines)
+            engine.say(f"go {go}")
+            self.assertIsNotNone(engine.wait("bestmove .*"), go)
+            self.assertTrue(engine.lines[seen].startswith("info depth 1 score cp 18 "), go)
+        self.assertEqual(engine.end(), 0)
+
     def test_the_report_of_a_depth(self):
         engine = Program()
         engine.say("go depth 4")
@@ -277,7 +367,19 @@ class TheEngine(unittest.TestCase):
         self.assertNotEqual(ran.returncode, 0)
         with open("/dev/full", "wb") as full:
             ran = subprocess.run([ENGINE], input=b"uci\n", stdout=full, stderr=subprocess.PIPE, timeout=runs.MOST_SECONDS)
-        self.assertEqual((ran.returncode, ran.stderr), (3, b"jatshegi: the replies can't be written\n"))
+        self.assertEqual((ran.returncode, ran.stderr), (3, b"jatshegi: the replies can't be written: No space left on device\n"))
+
+    def test_streams_that_fail(self):
+        """The message says which stream failed, and why."""
+        with open("/dev/null", "wb") as closed:
+            ran = subprocess.run([ENGINE], stdin=closed, capture_output=True, text=True)
+        self.assertEqual((ran.returncode, ran.stdout, ran.stderr), (3, "", "jatshegi: the input can't be read: Bad file descriptor\n"))
+        folder = os.open(self.folder, os.O_RDONLY)
+        ran = subprocess.run([ENGINE], stdin=folder, capture_output=True, text=True)
+        os.close(folder)
+        self.assertEqual((ran.returncode, ran.stdout, ran.stderr), (3, "", "jatshegi: the input can't be read: Is a directory\n"))
+        ran = subprocess.run([ENGINE, "--record", f"{self.folder}/none/record"], input="", capture_output=True, text=True)
+        self.assertEqual((ran.returncode, ran.stdout, ran.stderr), (3, "", "jatshegi: the record can't be written: No such file or directory\n"))
 
     def test_a_terminal(self):
         ours, its = pty.openpty()
