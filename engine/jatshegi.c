@@ -31,6 +31,7 @@ enum {
     SETTLED_DEPTH = 4,    /* the depth at which a timed search ends if there is one root alone; a `go` without words searches as deep */
     REPORT = 1000,        /* milliseconds between two lines `info time` in a search, and before the first root is named */
     MOST_DEPTH = 16,      /* plies of the deepest search */
+    MOST_NUMBER = 1000000000,  /* a greater number is read as this one, as the session does */
     REPLY_DEPTH = 3, REPLY_NODES = 20000  /* how deep a reply is searched at most for the line of best replies, and the positions for all of them */
 };
 
@@ -49,12 +50,12 @@ struct line {
 };
 
 /*
- * The search that runs: when it began, the positions visited, and when they were last reported; the last whole depth, and the roots searched since. A timed one
- * ends when it is due, or once no greater depth can change its move.
+ * The search that runs: when it began, the positions visited, and when they were last reported; the last whole depth, and the roots searched since. A search
+ * that isn't infinite ends when it is due, when it has visited the most positions that it may, or once it is settled, if it is timed or looks for a mate.
  */
 static struct {
-    bool runs, is_infinite, is_timed, is_settled;
-    uint64_t begin, visited, reported, depth, root, due;
+    bool runs, is_infinite, is_timed, wants_mate, is_settled;
+    uint64_t begin, visited, reported, depth, root, due, most;
 } search;
 
 /* The line of best moves that is reported with a depth: the replies to its first move. */
@@ -76,6 +77,10 @@ static struct jatshegi_stop stop, stopper;
 /* The position that the session searches, where it is known here, a copy to look ahead on, and whether all legal moves are the roots. */
 static struct jatshegi_board position, ahead;
 static bool is_known, are_all_roots;
+
+/* A line for the session after a position that it has refused: it has no legal move then, so it answers with none, and not with a move of an older position. */
+static const char no_moves[] = "position fen 7k/5Q2/6K1/8/8/8/8/8 b - - 0 1";
+static bool was_refused;
 
 /*
  * What the second thread does: it watches a search, rests, or is to end. The lock goes with the input, the output, the record and the search: the first thread
@@ -167,7 +172,7 @@ static void search_replies(const char *reply, const char *end) {
     }
 }
 
-/* Writes the report of a depth, with what it took and the best replies. A mate is the value at each greater depth, too; and one root is the move at each. */
+/* Writes the report of a depth, with what it took and the best replies. A mate is the value at each greater depth, too, and one root is the move at each. */
 static void write_report(const char *reply, const char *end) {
     const char *last = find(reply, end, line_of_best);
     fwrite(reply, 1, (size_t)(last - reply), stdout);
@@ -176,7 +181,7 @@ static void write_report(const char *reply, const char *end) {
     for (size_t at = 0; at < replies_after.count; at++) write_move(replies_after.moves[at]);
     putchar('\n');
     search.depth = strtoul(reply + strlen(report), NULL, 10);
-    search.is_settled = find(reply, last, " score mate ") < last || (search.root == 1 && search.depth >= SETTLED_DEPTH);
+    search.is_settled = find(reply, last, " score mate ") < last || (search.root == 1 && search.depth >= SETTLED_DEPTH && !search.wants_mate);
     search.root = 0;
 }
 
@@ -192,6 +197,7 @@ static void write_replies(const char *replies, size_t count) {
         } else if (begins_with(replies, next, report)) {
             write_report(replies, next);
         } else {
+            if (was_refused && begins_with(replies, next, "bestmove ")) printf("info string the last position was refused\n");
             fwrite(replies, 1, (size_t)(next - replies), stdout);
             putchar('\n');
         }
@@ -256,28 +262,83 @@ static bool follow(const char *line, const char *end) {
     return true;
 }
 
-/* Sees by which clock a search is to end that has begun: by `movetime`, which it uses up, or by its share of a game's clock. */
-static void begin_clock(const char *line, const char *end) {
+/* The number that a word writes, as the session reads it: digits; or a hyphen and digits, which is 0. UINT64_MAX if it is no number. */
+static uint64_t number_of(const char *word, size_t length) {
+    bool is_below = length && *word == '-';
+    uint64_t number = 0;
+    if (length == is_below) return UINT64_MAX;
+    for (size_t at = is_below; at < length; at++) {
+        if (word[at] < '0' || word[at] > '9') return UINT64_MAX;
+        if (number < MOST_NUMBER) number = number * 10 + (uint64_t)(word[at] - '0');
+    }
+    return is_below ? 0 : number < MOST_NUMBER ? number : MOST_NUMBER;
+}
+
+/* The last number after such a word of a line; UINT64_MAX if there is none. */
+static uint64_t number_after(const char *line, const char *end, const char *name) {
+    uint64_t found = UINT64_MAX, number;
+    const char *word;
+    for (size_t length = take_word(&line, end, &word); length;) {
+        bool is_named = is_word(word, length, name);
+        length = take_word(&line, end, &word);
+        number = number_of(word, length);
+        if (is_named && number != UINT64_MAX) found = number;
+    }
+    return found;
+}
+
+/* The line with a depth, if it has `nodes` or `mate` and none: it would be searched four plies deep. A mate with the n-th move comes with ply 2n - 1. */
+static char *with_depth(const char *line, size_t *length) {
+    uint64_t moves = number_after(line, line + *length, "mate");
+    unsigned plies = moves > MOST_DEPTH / 2 ? MOST_DEPTH : moves ? (unsigned)(2 * moves - 1) : 1;
+    char *copy;
+    if ((moves == UINT64_MAX && number_after(line, line + *length, "nodes") == UINT64_MAX) || names(line, line + *length, "depth")) return NULL;
+    copy = malloc(*length + sizeof " depth 16");
+    if (!copy) fail("there is no memory for a line", ENOMEM);
+    memcpy(copy, line, *length);
+    *length += (size_t)sprintf(copy + *length, " depth %u", plies);
+    return copy;
+}
+
+/* Sees how a search is to end that has begun: by `movetime`, which it uses up, by its share of a game's clock, by `nodes` or by `mate`. */
+static void begin_limits(const char *line, const char *end) {
     uint64_t left = 0, reserve = 0;
     uint32_t timed = jatshegi_engine_time_left(&board, &left);
     if (timed != JATSHEGI_NONE) check(timed);
     check(jatshegi_engine_infinite(&board, &search.is_infinite));
     search.is_timed = timed == JATSHEGI_OK;
+    search.wants_mate = number_after(line, end, "mate") != UINT64_MAX;
+    search.most = search.is_infinite ? UINT64_MAX : number_after(line, end, "nodes");
     if (!names(line, end, "movetime")) reserve = left / 2 < RESERVE ? left / 2 : RESERVE;
     search.due = search.is_timed ? search.begin + left - reserve : UINT64_MAX;
 }
 
-static void take_line(const char *line, size_t length) {
+/* Gives the session a line, and writes its replies. Says whether it has refused a position. */
+static bool give_line(const char *line, size_t length) {
     char replies[JATSHEGI_MOST_REPLIES];
     size_t count;
-    bool searched = search.runs;
-    if (!search.runs) are_all_roots = !names(line, line + length, "searchmoves");
     take_moment();
     note("line ", line, length);
     check(jatshegi_engine_line(&board, line, length, replies, sizeof replies, &count));
-    if (!count && (names(line, line + length, "position") || names(line, line + length, "ucinewgame"))) is_known = follow(line, line + length);
+    if (!count && (names(line, line + length, "position") || names(line, line + length, "ucinewgame"))) {
+        is_known = follow(line, line + length);
+        was_refused = false;
+    }
     reply(replies, count);
-    if (search.runs && !searched) begin_clock(line, line + length);
+    return begins_with(replies, replies + count, "info string position refused") || begins_with(replies, replies + count, "info string out of memory");
+}
+
+static void take_line(const char *line, size_t length) {
+    bool searched = search.runs;
+    char *copy = searched ? NULL : with_depth(line, &length);
+    if (copy) line = copy;
+    if (!searched) are_all_roots = !names(line, line + length, "searchmoves");
+    if (give_line(line, length)) {
+        if (give_line(no_moves, strlen(no_moves))) fail("there is no memory for a position", ENOMEM);
+        was_refused = true;
+    }
+    if (search.runs && !searched) begin_limits(line, line + length);
+    free(copy);
 }
 
 static void refuse_long_line(void) {
@@ -432,11 +493,15 @@ static void name_root(void) {
     flush();
 }
 
-/* Ends a timed search that is due, or that has nothing left to find, as `stop` does. */
-static void end_in_time(void) {
-    if (search.depth) take_moment();
-    if (search.runs && search.is_timed && (search.is_settled || now() >= end_by_time())) take_line("stop", strlen("stop"));
+/* Whether a search has come to an end that the session doesn't see: it is due, has visited all positions that it may, or has nothing left to find. */
+static bool is_at_end(void) {
+    if (search.is_infinite || !search.depth) return false;
+    if (search.is_settled && (search.is_timed || search.wants_mate)) return true;
+    return search.visited >= search.most || now() >= search.due;
 }
+
+/* How many positions the next root may ask for. */
+static uint64_t nodes_left(void) { return search.depth && search.most != UINT64_MAX ? search.most - search.visited - 1 : UINT64_MAX; }
 
 /* Searches one root more, as far as the flag and the clock let it; then the clock is read. */
 static void take_slice(void) {
@@ -446,14 +511,15 @@ static void take_slice(void) {
     bool searched;
     name_root();
     begin_watch();
-    check(jatshegi_engine_slice_within(&board, UINT64_MAX, &stop, &searched, &visited, replies, sizeof replies, &count));
+    check(jatshegi_engine_slice_within(&board, nodes_left(), &stop, &searched, &visited, replies, sizeof replies, &count));
     search_replies(replies, find(replies, replies + count, "\n"));
     end_watch();
     search.visited += visited;
     if (searched) note("slice", "", 0);
     search.root += searched;
     reply(replies, count);
-    if (search.runs) end_in_time();
+    if (search.runs && search.depth) take_moment();
+    if (search.runs && is_at_end()) take_line("stop", strlen("stop"));
     if (search.runs && now() - search.reported >= REPORT) {
         printf("info");
         write_effort();

@@ -24,7 +24,13 @@ SHARP = "q2k3r/1q5q/8/8/1b6/8/QP4PQ/R2K3q w - - 0 1"
 KIWIPETE = "r3k2r/p1ppqpb1/bn2pnp1/3PN3/1p2P3/2N2Q1p/PPPBBPPP/R3K2R w KQkq - 0 1"
 ONE_MOVE = "r1bqk2r/pppp1Qpp/2n2n2/2b1p3/4P3/8/PPPP1PPP/RNB1KBNR b KQkq - 0 4"
 POSITIONS = ["startpos", f"fen {SHARP}", f"fen {ONE_MOVE}", "startpos moves f2f3 e7e5 g2g4 d8h4", "startpos moves e2e4 e7e5", "startpos moves e2e5"]
-SEARCHES = ["depth 1", "depth 3", "depth 16", "infinite", "movetime 1", "movetime 40", "wtime 800 btime 900 winc 10 binc 10", "infinite searchmoves e2e4"]
+SEARCHES = [
+    "depth 1", "depth 3", "depth 16", "infinite", "movetime 1", "movetime 40", "wtime 800 btime 900 winc 10 binc 10", "infinite searchmoves e2e4",
+    "nodes 3000", "mate 2", "depth 3 nodes 300",
+]
+# The program's own line after a position that the session refuses: one without a legal move.
+NO_MOVES = "position fen 7k/5Q2/6K1/8/8/8/8/8 b - - 0 1"
+REFUSED = "info string the last position was refused"
 OTHERS = ["isready", "stop", "stop", "uci", "ponderhit", "ucinewgame", "setoption name Claims value true", "", "nothing", "\tisready \r"]
 
 
@@ -144,11 +150,12 @@ class TheEngine(unittest.TestCase):
     def check_script(self, seed):
         said, engine, status, record = script(seed, self.folder)
         self.assertEqual((status, engine.errors, engine.rest), (0, b"", b""), (seed, said))
-        lines = [it[5:] for it in record if it.startswith("line ")]
-        # (the end of the input is a `quit`, after a `stop` where the last search is infinite)
-        self.assertEqual([it for it in lines if it not in ("stop", "quit")], [it for it in said if it != "stop"], seed)
+        # (with `nodes` or `mate` and no depth a search is as deep as it may be)
+        lines = [re.sub(r"^(go (nodes|mate) \d+) depth (16|3)$", r"\1", it[5:]) for it in record if it.startswith("line ")]
+        # (the end of the input is a `quit`, after a `stop` where the last search is infinite; a search that has nothing left to do is ended by a `stop`)
+        self.assertEqual([it for it in lines if it not in ("stop", "quit", NO_MOVES)], [it for it in said if it != "stop"], seed)
         replies, searches, searching, positions = replayed(record)
-        written = [plain(it) for it in engine.lines if " currmove " not in it]
+        written = [plain(it) for it in engine.lines if " currmove " not in it and it != REFUSED]
         self.assertEqual([it for it in written if it != "info"], replies, (seed, said))
         for position, line in zip(positions, [it for it in engine.lines if " pv " in it], strict=True):
             self.check_line(position, line)
@@ -258,6 +265,59 @@ class TheEngine(unittest.TestCase):
             report = [it for it in engine.lines if " score " in it][-1]
             self.assertRegex(report, rf"info depth {depth} score {score or 'cp .*'} time ", (fen, go))
 
+    def test_a_search_of_a_number_of_positions(self):
+        """It goes deeper than four plies, completes depth 1, and asks for no more positions after it. An infinite search goes on."""
+        for go, depth, most in (
+            ("nodes 50000", 5, 50000), ("nodes 44699", 4, 44699), ("nodes 0", 1, 20), ("nodes -5", 1, 20), ("nodes 7 nodes 50000 depth 2", 2, 50000),
+            ("nodes 9999999999 movetime 40", None, 1_000_000_000), ("nodes 20 searchmoves e2e4", None, 20),
+        ):
+            engine = Program()
+            engine.say(f"go {go}")
+            self.assertIsNotNone(engine.wait("bestmove [a-h].*"), go)
+            self.assertEqual(engine.end(), 0)
+            reports = [re.findall(r"depth (\d+) .* nodes (\d+) ", it)[0] for it in engine.lines if " score " in it]
+            self.assertEqual(int(reports[-1][0]), depth or int(reports[-1][0]), go)
+            self.assertLessEqual(int(reports[-1][1]), most, go)
+        engine = Program()
+        engine.say("go infinite nodes 30")
+        self.assertIsNotNone(engine.wait("info depth 3 score .*"))
+        self.assertIsNone(engine.wait("bestmove .*", 0.1))
+        engine.end()
+
+    def test_a_search_for_a_mate(self):
+        """It ends with the mate, or at the depth of that number of moves."""
+        for fen, go, report, move in (
+            ("1k6/8/3K4/8/8/8/8/7R w - - 0 1", "mate 3", "depth 5 score mate 3 ", "d6c6"),
+            ("1k6/8/3K4/8/8/8/8/7R w - - 0 1", "mate 2", "depth 3 score cp ", None),
+            ("1k6/8/3K4/8/8/8/8/7R w - - 0 1", "mate 9", "depth 5 score mate 3 ", "d6c6"),
+            ("1k6/8/2K5/8/8/8/8/7R b - - 0 1", "mate 4", "depth 4 score mate -2 ", "b8a7"),
+            (ONE_MOVE, "mate 3", "depth 5 score cp ", "e8f7"),
+        ):
+            engine = Program()
+            engine.say(f"position fen {fen}")
+            engine.say(f"go {go}")
+            self.assertRegex(engine.wait("bestmove .*"), f"^bestmove {move or '[a-h]'}")
+            self.assertEqual(engine.end(), 0)
+            self.assertIn(f"info {report}", [it for it in engine.lines if " score " in it][-1], (fen, go))
+
+    def test_a_position_that_is_refused(self):
+        """No move of an older position is given, until another position comes."""
+        for bad in ("startpos moves e2e5", "startpos moves e2e4 e7e8Q", "fen 8/8 w - - 0 1", "nothing"):
+            engine = Program()
+            for line in ("position startpos moves e2e4", f"position {bad}", "go depth 2", "go wtime 1000 btime 1000", "go infinite"):
+                engine.say(line)
+            engine.say("stop")
+            for line in ("position startpos moves f2f3 e7e5 g2g4", "go depth 1"):
+                engine.say(line)
+            self.assertEqual(engine.wait("bestmove d8h4"), "bestmove d8h4")
+            for line in (f"position {bad}", "ucinewgame", "go depth 1"):
+                engine.say(line)
+            self.assertEqual(engine.wait("bestmove b1c3"), "bestmove b1c3")
+            self.assertEqual(engine.end(), 0)
+            none = [REFUSED, "bestmove 0000"]
+            self.assertEqual([it for it in engine.lines if " score " not in it],
+                             ["info string position refused", *3 * none, "bestmove d8h4", "info string position refused", "bestmove b1c3"])
+
     def test_an_infinite_search_with_a_mate_goes_on(self):
         engine = Program()
         engine.say("position fen k7/7p/1K6/8/8/8/8/6R1 b - - 0 1")
@@ -303,9 +363,9 @@ class TheEngine(unittest.TestCase):
         self.assertTrue(20 <= visited[0] and visited == sorted(visited), visited)
 
     def test_a_line_after_other_lines(self):
-        """The line of best replies follows the session's position: refused and busy lines change nothing, and where a line isn't in the usual form there is
-        no more than the session's own move."""
-        fools, plain_words = "startpos moves f2f3 e7e5 g2g4", ("position startpos moves e2e5", "position fen 8/8 w - - 0 1", "debug on")
+        """The line of best replies follows the session's position. Busy lines and other words leave it unchanged. After a line in another form `pv` has the
+        session's own move alone."""
+        fools, plain_words = "startpos moves f2f3 e7e5 g2g4", ("debug on", "setoption name Claims value", "register")
         for lines, position, most in (
             ([f"position {fools}", *plain_words], fools, 1),
             ([f"  position\t{fools} \r", "isready"], fools, 1),
