@@ -218,11 +218,13 @@ static void reply(const char *replies, size_t count) {
     write_replies(replies, count);
 }
 
+/* Has the session look at the clock, but not before depth 1 is complete: no time ends a search that has no move yet. */
 static void take_moment(void) {
     char replies[JATSHEGI_MOST_REPLIES];
     size_t count;
     char digits[24];
     uint64_t moment = now();
+    if (search.runs && !search.depth) return;
     note("moment ", digits, (size_t)snprintf(digits, sizeof digits, "%" PRIu64, moment));
     check(jatshegi_engine_moment(&board, moment, replies, sizeof replies, &count));
     reply(replies, count);
@@ -446,7 +448,7 @@ static bool wait_for_search(void) {
     return !watch.is_over;
 }
 
-/* When a search ends by time; before depth 1 is complete no time ends it, since it has no move yet. */
+/* When a search ends by time. */
 static uint64_t end_by_time(void) { return search.depth ? search.due : UINT64_MAX; }
 
 /* The second thread. After the end of the input it watches the clock alone. */
@@ -518,7 +520,7 @@ static void take_slice(void) {
     if (searched) note("slice", "", 0);
     search.root += searched;
     reply(replies, count);
-    if (search.runs && search.depth) take_moment();
+    if (search.runs) take_moment();
     if (search.runs && is_at_end()) take_line("stop", strlen("stop"));
     if (search.runs && now() - search.reported >= REPORT) {
         printf("info");

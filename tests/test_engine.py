@@ -343,11 +343,12 @@ class TheEngine(unittest.TestCase):
                     break
         self.assertLess(min(took[:-4]), 74)
         self.assertGreaterEqual(min(took[-4:]), 74)
-        for go in ("movetime 0", "wtime 0 btime 0", "wtime 1 btime 1 winc 0 binc 0", "movetime 1"):
+        for go in ("movetime 0", "wtime 0 btime 0", "wtime 1 btime 1 winc 0 binc 0", "movetime 1", "movetime 0\nisready\nisready"):
             seen = len(engine.lines)
             engine.say(f"go {go}")
             self.assertIsNotNone(engine.wait("bestmove .*"), go)
-            self.assertTrue(engine.lines[seen].startswith("info depth 1 score cp 18 "), go)
+            first = next(it for it in engine.lines[seen:] if it != "readyok")
+            self.assertTrue(first.startswith("info depth 1 score cp 18 "), (go, first))
         self.assertEqual(engine.end(), 0)
 
     def test_the_report_of_a_depth(self):
