@@ -2,8 +2,6 @@
 use Rattle.std.proofs.Common.{◌≡◌, ℕ, ◌+◌, ◌≤◌, true, List, [], ◌∷◌, ◌++◌, length, take, drop, refl, sym, ap, subst, ◌∙◌, arith, append_assoc, append-nil, length-append, length-take, take-append-drop}
 use Rattle.std.specs.List.{list_all}
 use Rattle.chess_items.specs.Items.{is_glyph}
-use Rattle.chess_repair.specs.Words.{spoken, sense}
-use Rattle.chess_repair.specs.declared.senses.Sense.{Sense}
 use Rattle.chess_repair.specs.declared.repair.RepairKind.TheVariants as k
 use Rattle.chess_repair.specs.Repairs.{IsPutIn, IsRepair, Rewrites, padded}
 use Rattle.chess_repair.specs.declared.repair.Repair.{Repair}
@@ -86,11 +84,6 @@ one_more_so size text rs rs' out out' left was rest now wide repair r parts is p
 -- the first two signs of annotation
 pub first_two : (xs : List ℕ) → 2 ≤ length xs → list_all is_glyph xs ≡ true → IsRepair k.Glyphs xs (take 2 xs)
 first_two xs long all = (drop 2 xs, sym (take-append-drop 2 xs), (let e = length-take 2 xs in omega (arith, e, long)), all)
-
--- what two texts say one after the other
-pub sense-append : (s : Sense) (xs ys : List ℕ) → sense s (xs ++ ys) ≡ sense s xs ++ sense s ys
-sense-append s [] ys = refl
-sense-append s (x ∷ xs) ys = ap (λ (z : List ℕ). spoken s x ++ z) (sense-append s xs ys) ∙ sym (append_assoc (spoken s x) (sense s xs) (sense s ys))
 
 -- bytes instead of others
 pub put_in : (put was before rest field after first second new : List ℕ) (n m : ℕ) → before ≡ take n was → rest ≡ drop n was → after ≡ drop m rest → first ≡ before → second ≡ first ++ put → new ≡ second ++ after → IsPutIn put was new

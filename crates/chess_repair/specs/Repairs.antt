@@ -9,7 +9,9 @@
 use Rattle.std.specs.Prelude.{◌≡◌, ◌⊎◌, ℕ, ◌+◌, true, not, List, [], ◌∷◌, ◌++◌, length, map, Some, codes}
 use Rattle.std.specs.List.{list_all}
 use Rattle.chess_items.specs.Items.{is_glyph, is_name_byte}
-use Rattle.chess_repair.specs.Words.{castling_of, core, is_right, is_said, letters, quiet, result_of, sign_of, number_for}
+use Rattle.chess_repair.specs.Words.{castling_of, is_right, is_said, quiet, result_of, sign_of, number_for}
+use Rattle.chess_repair.specs.Moves.{IsMove}
+use Rattle.chess_repair.specs.Tags.{IsTag}
 use Rattle.chess_repair.specs.declared.repair.Repair.{Repair}
 use Rattle.chess_repair.specs.declared.repair.RepairKind.{RepairKind}
 use Rattle.chess_repair.specs.declared.repair.RepairKind.TheVariants as k
@@ -34,16 +36,16 @@ abbrev pub IsFen : List ℕ → List ℕ → Type 0
 IsFen was now = (now ≡ []) ⊎ ((put : List ℕ) × IsPutIn put was now × (IsMore put ⊎ (list_all is_right put ≡ true)))
 
 abbrev pub IsRepair : RepairKind → List ℕ → List ℕ → Type 0
-IsRepair k.TagQuotes was now = letters was ≡ letters now
-IsRepair k.TagBracket was now = letters was ≡ letters now
-IsRepair k.TagName was now = letters was ≡ letters now
-IsRepair k.Castling was now = core was ≡ core now
-IsRepair k.Hyphen was now = core was ≡ core now
-IsRepair k.Colon was now = core was ≡ core now
-IsRepair k.Pawn was now = core was ≡ core now
-IsRepair k.Small was now = core was ≡ core now
-IsRepair k.Large was now = core was ≡ core now
-IsRepair k.Promotion was now = core was ≡ core now
+IsRepair k.TagQuotes was now = IsTag was now
+IsRepair k.TagBracket was now = IsTag was now
+IsRepair k.TagName was now = IsTag was now
+IsRepair k.Castling was now = IsMove k.Castling was now
+IsRepair k.Hyphen was now = IsMove k.Hyphen was now
+IsRepair k.Colon was now = IsMove k.Colon was now
+IsRepair k.Pawn was now = IsMove k.Pawn was now
+IsRepair k.Small was now = IsMove k.Small was now
+IsRepair k.Large was now = IsMove k.Large was now
+IsRepair k.Promotion was now = IsMove k.Promotion was now
 IsRepair k.Sign was now = sign_of was ≡ Some now
 IsRepair k.Said was now = (is_said was ≡ true) × (now ≡ [])
 IsRepair k.Value was now = number_for was ≡ Some now

@@ -1,10 +1,4 @@
 -- Bytes and words of games as people write them.
---   is_kept     a byte of names, or one beyond ASCII: what no repair of a tag may lose
---   Sense       what of a text is looked at: those bytes, or what a move's text says
---   spoken      what a byte says in a sense
---   letters     what a text says in the first
---   core_byte   what a byte of a move's text says: nothing, where it is a sign; a letter in any size, and a circle of castling, are one
---   core        what a move's text says: the man, the squares, the promotion and check
 --   is_right    a castling right, or the sign of none
 --   quiet       a byte as it may be in a comment: no brace, and no bracket
 --   number_for  the annotation number for a word of evaluation, as it is written
@@ -14,36 +8,6 @@
 --   sign_of     what is written for a dash, a sign of captures or a figurine of UTF-8 within a word
 use Rattle.std.specs.Prelude.{ℕ, Bool, ◌||◌, ◌&&◌, ◌==◌, nat_le, ◌+◌, if◌then◌else◌, List, [], ◌∷◌, Option, Some, None, codes, bytes_eq}
 use Rattle.std.specs.Str.{byte}
-use Rattle.std.specs.List.{flat_map}
-use Rattle.chess_items.specs.Items.{is_name_byte}
-use Rattle.chess_repair.specs.declared.senses.Sense.{Sense}
-use Rattle.chess_repair.specs.declared.senses.Sense.TheVariants.{Letters, Moves}
-
-unfoldable pub is_kept : ℕ → Bool
-is_kept b = is_name_byte b || nat_le 128 b
-
--- the signs between the parts of a move, and the P of a pawn
-unfoldable pub is_sign : ℕ → Bool
-is_sign b = b == 0 || b == byte "-" || b == byte ":" || b == byte "x" || b == byte "=" || b == byte "(" || b == byte ")" || b == byte "/" || b == byte "P"
-
-unfoldable pub core_byte : ℕ → List ℕ
-core_byte b =
-    if is_sign b then []
-    else (if b == byte "0" then byte "o" ∷ [] else (if nat_le (byte "A") b && nat_le b (byte "Z") then (b + 32) ∷ [] else b ∷ []))
-
-unfoldable pub spoken : Sense → ℕ → List ℕ
-spoken Letters b = if is_kept b then b ∷ [] else []
-spoken Moves b = core_byte b
-
--- what all bytes say, one after the other
-abbrev pub sense : Sense → List ℕ → List ℕ
-sense s text = flat_map (spoken s) text
-
-abbrev pub letters : List ℕ → List ℕ
-letters text = sense Letters text
-
-abbrev pub core : List ℕ → List ℕ
-core text = sense Moves text
 
 -- a castling right as a FEN has it, or the sign of none
 unfoldable pub is_right : ℕ → Bool

@@ -3,7 +3,8 @@
 ghost use Rattle.std.specs.Prelude.{◌≡◌, None, true, IfSome};
 ghost use Rattle.chess_repair.specs.Letters.{IsOfLetters, are_different, are_letters, is_capital, standard};
 
-use crate::moves::{before_checks, ends_square, is_file, is_rank};
+use crate::moves::{before_checks, is_file};
+use crate::senses::{ends_square, is_rank};
 
 /// The capital letters of the men in a language, as KDTLS in German.
 #[derive(Clone, Copy, Debug, PartialEq, Eq)]

@@ -13,6 +13,7 @@ mod moves;
 mod pen;
 mod repair;
 mod respelling;
+mod runs;
 mod senses;
 mod spelling;
 mod tags;

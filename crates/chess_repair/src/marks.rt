@@ -2,10 +2,13 @@
 
 ghost use Rattle.std.specs.Prelude.{◌≡◌, not};
 ghost use Rattle.std.specs.List.{list_all};
-ghost use Rattle.chess_items.specs.Items.{is_glyph, is_name_byte};
+ghost use Rattle.chess_items.specs.Items.{is_blank, is_glyph, is_name_byte};
 
 /// Whitespace: from the horizontal tab to the carriage return, and the space.
-pub fn is_blank(b: u8) -> bool {
+#[tactic(auto, unfolding(chess_items::specs::Items::is_blank))]
+pub fn is_blank(b: u8) -> bool
+    ensures { result ≡ is_blank b }
+{
     matches!(b, 9..=13 | b' ')
 }
 

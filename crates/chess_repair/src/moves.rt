@@ -1,12 +1,12 @@
 //! The texts of moves: the forms that strict reading takes, and a text with the same man and squares in such a form.
 
 ghost use Rattle.std.specs.Prelude.{◌≡◌, IfSome, List, ℕ};
+ghost use Rattle.chess_repair.specs.Moves.{IsMove};
 ghost use Rattle.chess_repair.specs.Repairs.{IsRepair};
-ghost use Rattle.chess_repair.specs.Words.{core};
 
 use crate::marks::after;
 use crate::repair::RepairKind;
-use crate::senses::{Sense, say_the_same};
+use crate::senses::{ends_square, is_circle, is_piece, is_rank, says_the_same};
 use arrayvec::ArrayVec;
 use chess_items::is;
 
@@ -26,15 +26,6 @@ pub fn before_checks(text: &[u8]) -> &[u8] {
 /// A file's letter.
 pub fn is_file(b: u8) -> bool {
     matches!(b, b'a'..=b'h')
-}
-
-/// A rank's digit.
-pub fn is_rank(b: u8) -> bool {
-    matches!(b, b'1'..=b'8')
-}
-
-fn is_piece(b: u8) -> bool {
-    matches!(b, b'Q' | b'R' | b'B' | b'N' | b'q' | b'r' | b'b' | b'n')
 }
 
 // The text without the man that a pawn is promoted to.
@@ -88,17 +79,13 @@ pub struct Mended {
 
 // A repair that leaves what the move says.
 fn kept(word: &[u8], text: ArrayVec<u8, 16>, kind: RepairKind) -> Option<Mended>
-    requires { (now : List ℕ) → core word.now ≡ core now → IsRepair kind word.now now }
+    requires { (now : List ℕ) → IsMove kind word.now now → IsRepair kind word.now now }
     ensures { IfSome result (λ m. IsRepair m.kind word.now m.text.items) }
 {
-    if !say_the_same(Sense::Moves, word, text.as_slice()) {
+    if !says_the_same(kind, word, text.as_slice()) {
         return None;
     }
     Some(Mended { text, kind })
-}
-
-fn is_circle(b: u8) -> bool {
-    matches!(b, b'O' | b'o' | b'0')
 }
 
 // Castling, without the signs of check: how many circles there are, joined by hyphens or not; 0 where it is something else.
@@ -145,11 +132,6 @@ fn plain_byte(before: Option<u8>, b: u8, next: Option<u8>) -> (u8, u8) {
     }
 }
 
-/// What comes before the man of a promotion: its square's rank, or a sign.
-pub fn ends_square(b: u8) -> bool {
-    matches!(b, b'1' | b'8' | b'=' | b'/' | b'(')
-}
-
 // The move with the same man and squares, without other signs.
 fn plain(word: &[u8]) -> Option<ArrayVec<u8, 16>> {
     if word.len() > MOST {
@@ -173,7 +155,7 @@ fn plain(word: &[u8]) -> Option<ArrayVec<u8, 16>> {
 
 // What was repaired.
 fn kind_of(word: &[u8]) -> RepairKind
-    ensures { (now : List ℕ) → core word.now ≡ core now → IsRepair result word.now now }
+    ensures { (now : List ℕ) → IsMove result word.now now → IsRepair result word.now now }
 {
     match word {
         [b'P', ..] => RepairKind::Pawn,

@@ -1,83 +1,164 @@
-//! What a text says, and whether two say the same.
+//! What the text of a move says, and whether a text says what another means.
 
-ghost use Rattle.std.specs.Prelude.{◌≡◌, ◌++◌, ◌∷◌, [], true, IfSome, IfNone, List, ℕ};
-ghost use Rattle.chess_repair.specs.Words.{core_byte, is_kept, spoken, sense};
+ghost use Rattle.std.specs.Prelude.{◌≡◌, ◌++◌, true, IfSome};
+ghost use Rattle.chess_repair.specs.Moves.{IsMove, capital, ends_square, first_meant, has_rank_next, is_circle, is_large, is_piece, is_rank, is_sign, is_small, mark, meant, said, small};
 
-use crate::marks::is_name;
+use crate::repair::RepairKind;
+use arrayvec::ArrayVec;
 
-/// What of a text is looked at.
-#[derive(Clone, Copy, PartialEq, Eq)]
-pub enum Sense {
-    /// Letters, digits, the underscore, and bytes beyond ASCII.
-    Letters,
-    /// What the text of a move says: the man, the squares, the promotion and check, in whatever signs and sizes of letters.
-    Moves,
-}
-
-#[tactic(auto, unfolding(crate::specs::Words::is_kept))]
-fn is_kept(b: u8) -> bool
-    ensures { result ≡ is_kept b }
+/// A rank's digit.
+#[tactic(auto, unfolding(crate::specs::Moves::is_rank))]
+pub fn is_rank(b: u8) -> bool
+    ensures { result ≡ is_rank b }
 {
-    is_name(b) || 128 <= b
+    matches!(b, b'1'..=b'8')
 }
 
-// What a byte of a move's text says: nothing, where it is a sign.
-#[tactic(auto, unfolding(crate::specs::Words::core_byte, crate::specs::Words::is_sign))]
-fn core_of(b: u8) -> Option<u8>
-    ensures some { IfSome result (λ c. core_byte b ≡ c ∷ []) }
-    ensures none { IfNone result (core_byte b ≡ []) }
+/// The letter of a man that a pawn may become, of either size.
+#[tactic(auto, unfolding(crate::specs::Moves::is_piece))]
+pub fn is_piece(b: u8) -> bool
+    ensures { result ≡ is_piece b }
+{
+    matches!(b, b'Q' | b'R' | b'B' | b'N' | b'q' | b'r' | b'b' | b'n')
+}
+
+/// What comes before the man of a promotion: its square's rank, or a sign.
+#[tactic(auto, unfolding(crate::specs::Moves::ends_square))]
+pub fn ends_square(b: u8) -> bool
+    ensures { result ≡ ends_square b }
+{
+    matches!(b, b'1' | b'8' | b'=' | b'/' | b'(')
+}
+
+/// A circle of castling.
+#[tactic(auto, unfolding(crate::specs::Moves::is_circle))]
+pub fn is_circle(b: u8) -> bool
+    ensures { result ≡ is_circle b }
+{
+    matches!(b, b'O' | b'o' | b'0')
+}
+
+// A sign between the parts of a move.
+#[tactic(auto, unfolding(crate::specs::Moves::is_sign))]
+fn is_sign(b: u8) -> bool
+    ensures { result ≡ is_sign b }
+{
+    matches!(b, b'-' | b':' | b'x' | b'=' | b'(' | b')' | b'/')
+}
+
+#[tactic(auto, unfolding(crate::specs::Moves::capital))]
+fn capital(b: u8) -> u8
+    ensures { result ≡ capital b }
 {
     match b {
-        0 | b'-' | b':' | b'x' | b'=' | b'(' | b')' | b'/' | b'P' => None,
-        b'0' => Some(b'o'),
-        b'A'..=b'Z' => Some(b + 32),
-        b => Some(b),
+        b'a'..=b'z' => b - 32,
+        b => b,
     }
 }
 
-#[tactic(auto, unfolding(crate::specs::Words::spoken))]
-fn said(kind: Sense, b: u8) -> Option<u8>
-    ensures some { IfSome result (λ c. spoken kind b ≡ c ∷ []) }
-    ensures none { IfNone result (spoken kind b ≡ []) }
+#[tactic(auto, unfolding(crate::specs::Moves::small))]
+fn small(b: u8) -> u8
+    ensures { result ≡ small b }
 {
-    match kind {
-        Sense::Letters => { if is_kept(b) { Some(b) } else { None } }
-        Sense::Moves => core_of(b),
+    match b {
+        b'A'..=b'Z' => b + 32,
+        b => b,
     }
 }
 
-// The first byte that a text says, and what comes after it.
-fn first_said(kind: Sense, text: &[u8]) -> Option<(u8, &[u8])>
-    ensures some { IfSome result (λ r. sense kind text.now ≡ r.0 ∷ sense kind r.1.now) }
-    ensures none { IfNone result (sense kind text.now ≡ []) }
+// A man's letter that is small.
+#[tactic(auto, unfolding(crate::specs::Moves::is_small))]
+fn is_small(b: u8) -> bool
+    ensures { result ≡ is_small b }
 {
+    matches!(b, b'n' | b'r' | b'q' | b'k')
+}
+
+// A file's letter that is large.
+#[tactic(auto, unfolding(crate::specs::Moves::is_large))]
+fn is_large(b: u8) -> bool
+    ensures { result ≡ is_large b }
+{
+    matches!(b, b'A' | b'C'..=b'H')
+}
+
+// Whether a rank's digit comes next.
+fn has_rank_next(more: &[u8]) -> bool
+    ensures { result ≡ has_rank_next more.now }
+{
+    match more {
+        [b, ..] => is_rank(*b),
+        [] => false,
+    }
+}
+
+/// What the text of a move says.
+type Marks = ArrayVec<u8, 32>;
+
+// Adds what a byte of a move says between its neighbours.
+fn push_mark(marks: &mut Marks, before: u8, b: u8, more: &[u8]) -> Option<()>
+    ensures { IfSome result (λ _. marks.new.items ≡ marks.old.items ++ mark before b more.now) }
+{
+    if is_piece(b) && ends_square(before) && !has_rank_next(more) {
+        marks.try_push(b'=').ok()?;
+        marks.try_push(capital(b)).ok()
+    } else if is_sign(b) {
+        Some(())
+    } else if is_circle(b) {
+        marks.try_push(b'O').ok()
+    } else {
+        marks.try_push(b).ok()
+    }
+}
+
+// What the text of a move says; nothing for a text that is too long.
+fn said(text: &[u8]) -> Option<Marks>
+    ensures { IfSome result (λ marks. marks.items ≡ said text.now) }
+{
+    let mut marks = ArrayVec::new();
+    let mut before = 0u8;
     let mut rest = text;
     while let [b, more @ ..] = rest {
-        if let Some(c) = said(kind, *b) {
-            return Some((c, more));
-        }
+        push_mark(&mut marks, before, *b, more)?;
+        before = *b;
         rest = more;
     }
-    None
+    Some(marks)
 }
 
-/// Whether two texts surely say the same.
-pub fn say_the_same(kind: Sense, a: &[u8], b: &[u8]) -> bool
-    ensures { result ≡ true → sense kind a.now ≡ sense kind b.now }
+// Adds what the first byte of a move means where it is mended so.
+fn push_first(text: &mut Marks, kind: RepairKind, b: u8) -> Option<()>
+    ensures { IfSome result (λ _. text.new.items ≡ text.old.items ++ first_meant kind b) }
 {
-    let (mut a, mut b) = (a, b);
-    for _ in 0..=a.len() {
-        match (first_said(kind, a), first_said(kind, b)) {
-            (None, None) => return true,
-            (Some((first, rest)), Some((second, others))) => {
-                if first != second {
-                    return false;
-                }
-                a = rest;
-                b = others;
-            }
-            _ => return false,
-        }
+    match kind {
+        RepairKind::Pawn if b == b'P' => Some(()),
+        RepairKind::Small if is_small(b) => text.try_push(capital(b)).ok(),
+        RepairKind::Large if is_large(b) => text.try_push(small(b)).ok(),
+        _ => text.try_push(b).ok(),
     }
-    false
+}
+
+// The text that is meant by a move that is mended so.
+fn meant(kind: RepairKind, word: &[u8]) -> Option<Marks>
+    ensures { IfSome result (λ text. text.items ≡ meant kind word.now) }
+{
+    let mut text = ArrayVec::new();
+    if let [b, more @ ..] = word {
+        push_first(&mut text, kind, *b)?;
+        text.try_extend_from_slice(more).ok()?;
+    }
+    Some(text)
+}
+
+/// Whether a text surely says what a word means where it is mended so.
+pub fn says_the_same(kind: RepairKind, word: &[u8], text: &[u8]) -> bool
+    ensures { result ≡ true → IsMove kind word.now text.now }
+{
+    let Some(meant) = meant(kind, word) else {
+        return false;
+    };
+    match (said(meant.as_slice()), said(text)) {
+        (Some(was), Some(now)) => was.as_slice() == now.as_slice(),
+        _ => false,
+    }
 }

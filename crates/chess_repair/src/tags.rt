@@ -1,14 +1,69 @@
 //! Tags that can be read, and tags that are mended.
 
-ghost use Rattle.std.specs.Prelude.{◌≡◌, IfOk, IfSome};
-ghost use Rattle.chess_repair.specs.Words.{letters};
+ghost use Rattle.std.specs.Prelude.{◌≡◌, ◌∷◌, ◌++◌, [], None, Some, false, IfOk, IfSome};
+ghost use Rattle.std.specs.List.{list_any};
+ghost use Rattle.chess_items.specs.Items.{is_name_byte};
+ghost use Rattle.chess_repair.specs.Runs.{has_first, past_end};
+ghost use Rattle.chess_repair.specs.Tags.{IsTag, after_bracket, after_quote, begins_tag, escaped, escapes, first_name, has_name, is_bracket, is_edge, is_escapable, is_kept, is_quote, name_before_quote, name_in, rough_value, tag_text, unclosed, value_in};
 
 use crate::marks::{after, blanks, is_blank, is_name, last_of, len_to, name_len, without_blanks};
-use crate::senses::{Sense, say_the_same};
+use crate::runs::{past_blanks, past_name};
 use std::alloc::{AllocError, Allocator};
 
-// Whether a backslash at that place escapes the byte after it (PGN 7).
-fn escapes(text: &[u8], at: usize) -> bool {
+/// The most bytes of a line that are looked at for the end of its tag.
+const LINE: usize = 4_096;
+
+// A quotation mark.
+#[tactic(auto, unfolding(crate::specs::Tags::is_quote))]
+fn is_quote(b: u8) -> bool
+    ensures { result ≡ is_quote b }
+{
+    b == b'"'
+}
+
+#[tactic(auto, unfolding(crate::specs::Tags::is_bracket))]
+fn is_bracket(b: u8) -> bool
+    ensures { result ≡ is_bracket b }
+{
+    b == b']'
+}
+
+// A quotation mark or a backslash.
+#[tactic(auto, unfolding(crate::specs::Tags::is_escapable, crate::specs::Tags::is_quote))]
+fn is_escapable(b: u8) -> bool
+    ensures { result ≡ is_escapable b }
+{
+    b == b'"' || b == b'\\'
+}
+
+// A byte of names, or one beyond ASCII.
+#[tactic(auto, unfolding(crate::specs::Tags::is_kept))]
+fn is_kept(b: u8) -> bool
+    ensures { result ≡ is_kept b }
+{
+    is_name(b) || 128 <= b
+}
+
+// What a value doesn't end with.
+#[tactic(auto, unfolding(crate::specs::Tags::is_edge))]
+fn is_edge(b: u8) -> bool
+    ensures { result ≡ is_edge b }
+{
+    is_blank(b) || is_quote(b)
+}
+
+// Whether a byte escapes the one after it (PGN 7): a backslash before a quotation mark or a backslash.
+fn escapes(b: u8, next: &[u8]) -> bool
+    ensures { result ≡ escapes b next.now }
+{
+    match next {
+        [c, ..] => b == b'\\' && is_escapable(*c),
+        [] => false,
+    }
+}
+
+// The same of the byte at a place of a text.
+fn escapes_at(text: &[u8], at: usize) -> bool {
     matches!(after(text, at), [b'\\', b'"' | b'\\', ..])
 }
 
@@ -19,7 +74,7 @@ fn value_len(text: &[u8]) -> Option<usize> {
         match text[at] {
             b'\n' => return None,
             b'"' if !is_escaped => return Some(at),
-            _ => is_escaped = !is_escaped && escapes(text, at),
+            _ => is_escaped = !is_escaped && escapes_at(text, at),
         }
     }
     None
@@ -56,6 +111,30 @@ pub fn opens_tag(text: &[u8]) -> bool {
     }
 }
 
+// Whether a text begins with a name and a quotation mark.
+fn has_name(text: &[u8]) -> bool
+    ensures { result ≡ has_name text.now }
+{
+    match text {
+        [b, ..] => is_name(*b)
+            && match past_blanks(past_name(text)) {
+                [c, ..] => is_quote(*c),
+                [] => false,
+            },
+        [] => false,
+    }
+}
+
+/// Whether a text begins with a tag, up to the quotation mark before its value.
+pub fn begins_tag(text: &[u8]) -> bool
+    ensures { result ≡ begins_tag text.now }
+{
+    match text {
+        [b, inner @ ..] => *b == b'[' && has_name(past_blanks(inner)),
+        [] => false,
+    }
+}
+
 /// What is wrong with a tag.
 #[derive(Clone, Copy, PartialEq, Eq)]
 pub enum TagFault {
@@ -76,23 +155,11 @@ pub struct MendedTag<'t, 'a, A: Allocator> {
     pub fault: TagFault,
 }
 
-// The parts of a tag that can't be read: its name with other bytes, its value as it was meant, and how many bytes the tag has.
+// How many bytes a tag has that can't be read, and why it can't.
 #[derive(Clone, Copy)]
-struct Parts<'t> {
-    name: &'t [u8],
-    value: &'t [u8],
+struct Extent {
     length: usize,
     fault: TagFault,
-}
-
-// The text without blanks and quotation marks at its end.
-fn without_quotes(text: &[u8]) -> &[u8] {
-    let count = text
-        .iter()
-        .rev()
-        .take_while(|b| is_blank(**b) || **b == b'"')
-        .count();
-    &text[..text.len().saturating_sub(count)]
 }
 
 // Where a value ends whose quotation marks are bare: before the first mark that isn't escaped and has a right bracket after it. How many bytes come before
@@ -106,13 +173,13 @@ fn first_end(value: &[u8]) -> Option<(usize, usize)> {
                 return Some((at, value.len().saturating_sub(tail.len())));
             }
         }
-        is_escaped = !is_escaped && escapes(value, at);
+        is_escaped = !is_escaped && escapes_at(value, at);
     }
     None
 }
 
 // A tag without quotation marks, on a line of its own.
-fn unquoted(line: &[u8]) -> Option<Parts<'_>> {
+fn unquoted(line: &[u8]) -> Option<Extent> {
     let [b'[', inner @ ..] = line else {
         return None;
     };
@@ -126,103 +193,196 @@ fn unquoted(line: &[u8]) -> Option<Parts<'_>> {
     if tail.is_empty() || value.iter().any(|b| matches!(*b, b'[' | b'{' | b'}')) {
         return None;
     }
-    Some(Parts {
-        name,
-        value: without_blanks(value),
+    Some(Extent {
         length: line.len().saturating_sub(tail.len()).saturating_add(1),
         fault: TagFault::Quotes,
     })
 }
 
-// A tag whose value isn't closed by a quotation mark before a right bracket: how many bytes it has, and how many with what closes it.
-fn rough_end(value: &[u8]) -> (usize, usize, TagFault) {
+// A tag whose value isn't closed by a quotation mark before a right bracket: how many bytes its value has with what closes it.
+fn rough_end(value: &[u8]) -> (usize, TagFault) {
     if let Some(at) = last_of(b']', value) {
-        return (at, at.saturating_add(1), TagFault::Quotes);
+        return (at.saturating_add(1), TagFault::Quotes);
     }
     match last_of(b'"', value) {
-        Some(at) => (at, at.saturating_add(1), TagFault::Bracket),
-        None => (value.len(), value.len(), TagFault::Bracket),
+        Some(at) => (at.saturating_add(1), TagFault::Bracket),
+        None => (value.len(), TagFault::Bracket),
     }
 }
 
-// A tag with quotation marks: its name is what comes before the first, which is after `quote` bytes.
-fn quoted(line: &[u8], quote: usize) -> Option<Parts<'_>> {
+// A tag with quotation marks: its name is what comes before the first, which is after `quote` bytes. Of a line that goes on, nothing where its end isn't found.
+fn quoted(line: &[u8], quote: usize, goes_on: bool) -> Option<Extent> {
     let (head, more) = line.split_at(quote.min(line.len()));
     let name = after(head, 1);
     let value = after(more, 1);
-    if !name.iter().any(|b| is_name(*b)) || name.contains(&b']') || name.contains(&b'[') {
+    if !name.iter().any(|b| is_name(*b)) || name.iter().any(|b| matches!(*b, b'[' | b']' | 128..)) {
         return None;
     }
-    let (len, end, fault) = match first_end(value) {
-        Some((len, end)) if value_len(value) == Some(len) => (len, end, TagFault::Name),
-        Some((len, end)) => (len, end, TagFault::Quotes),
+    let (end, fault) = match first_end(value) {
+        Some((len, end)) if value_len(value) == Some(len) => (end, TagFault::Name),
+        Some((_, end)) => (end, TagFault::Quotes),
+        None if goes_on => return None,
         None => rough_end(value),
     };
-    Some(Parts {
-        name,
-        value: without_quotes(&value[..len.min(value.len())]),
+    Some(Extent {
         length: quote.saturating_add(1).saturating_add(end),
         fault,
     })
 }
 
-// Writes a value with its quotation marks and backslashes escaped, but for those that are.
-fn put_value<'a, A: Allocator>(text: &mut Vec<u8, &'a A>, value: &[u8]) -> Result<(), AllocError> {
-    let mut is_escaped = false;
-    for at in 0..value.len() {
-        let b = value[at];
-        let begins = !is_escaped && escapes(value, at);
-        if matches!(b, b'"' | b'\\') && !is_escaped && !begins {
-            text.push(b'\\')?;
+// What comes after the first quotation mark.
+fn after_quote(text: &[u8]) -> Option<&[u8]>
+    ensures some { IfSome result (λ rest. after_quote text.now ≡ Some rest.now) }
+    ensures none { result ≡ None → after_quote text.now ≡ None }
+{
+    let mut rest = text;
+    while let [b, more @ ..] = rest {
+        if is_quote(*b) {
+            return Some(more);
         }
-        text.push(b)?;
-        is_escaped = begins;
+        rest = more;
     }
-    Ok(())
+    None
 }
 
-// Writes the bytes of a name.
-fn put_name<'a, A: Allocator>(text: &mut Vec<u8, &'a A>, name: &[u8]) -> Result<(), AllocError> {
-    for b in name {
-        if is_name(*b) {
+// What comes after the bracket at the beginning of a tag, and blanks.
+fn after_bracket(tag: &[u8]) -> &[u8]
+    ensures { result.now ≡ after_bracket tag.now }
+{
+    match tag {
+        [_, inner @ ..] => past_blanks(inner),
+        [] => tag,
+    }
+}
+
+// Adds the bytes before the first quotation mark that a name keeps.
+fn push_name_before_quote<'a, A: Allocator>(
+    text: &mut Vec<u8, &'a A>,
+    tag: &[u8],
+) -> Result<(), AllocError>
+    ensures { IfOk result (λ _. text.new.items ≡ text.old.items ++ name_before_quote tag.now) }
+{
+    let mut rest = tag;
+    while let [b, more @ ..] = rest {
+        if is_quote(*b) {
+            break;
+        }
+        if is_kept(*b) {
             text.push(*b)?;
         }
+        rest = more;
     }
     Ok(())
 }
 
-// The text of a tag, of its parts.
-fn text_of<'a, A: Allocator>(alloc: &'a A, parts: Parts<'_>) -> Result<Vec<u8, &'a A>, AllocError> {
+// Adds the bytes of names at the beginning.
+fn push_first_name<'a, A: Allocator>(
+    text: &mut Vec<u8, &'a A>,
+    start: &[u8],
+) -> Result<(), AllocError>
+    ensures { IfOk result (λ _. text.new.items ≡ text.old.items ++ first_name start.now) }
+{
+    let mut rest = start;
+    while let [b, more @ ..] = rest {
+        if !is_name(*b) {
+            break;
+        }
+        text.push(*b)?;
+        rest = more;
+    }
+    Ok(())
+}
+
+// Adds the name of a tag.
+fn push_name<'a, A: Allocator>(text: &mut Vec<u8, &'a A>, tag: &[u8]) -> Result<(), AllocError>
+    ensures { IfOk result (λ _. text.new.items ≡ text.old.items ++ name_in tag.now) }
+{
+    match after_quote(tag) {
+        Some(_) => push_name_before_quote(text, tag),
+        None => push_first_name(text, after_bracket(tag)),
+    }
+}
+
+// What comes after the first quotation mark of a tag, or its name.
+fn rough_value(tag: &[u8]) -> &[u8]
+    ensures { result.now ≡ rough_value tag.now }
+{
+    match after_quote(tag) {
+        Some(value) => value,
+        None => past_name(after_bracket(tag)),
+    }
+}
+
+// The text without one right bracket at its end.
+fn unclosed(text: &[u8]) -> &[u8]
+    ensures { result.now ≡ unclosed text.now }
+{
+    match text {
+        [more @ .., b] => { if is_bracket(*b) { more } else { text } }
+        [] => text,
+    }
+}
+
+// The text without blanks and quotation marks at its end.
+fn without_edges(text: &[u8]) -> &[u8]
+    ensures { result.now ≡ past_end is_edge text.now }
+{
+    let mut rest = text;
+    while let [more @ .., b] = rest {
+        if !is_edge(*b) {
+            break;
+        }
+        rest = more;
+    }
+    rest
+}
+
+// The value of a tag.
+fn value_of(tag: &[u8]) -> &[u8]
+    ensures { result.now ≡ value_in tag.now }
+{
+    past_blanks(without_edges(unclosed(rough_value(tag))))
+}
+
+// Adds a value with its quotation marks and backslashes escaped.
+fn push_escaped<'a, A: Allocator>(text: &mut Vec<u8, &'a A>, value: &[u8]) -> Result<(), AllocError>
+    ensures { IfOk result (λ _. text.new.items ≡ text.old.items ++ escaped false value.now) }
+{
+    let mut is_escaped = false;
+    let mut rest = value;
+    while let [b, more @ ..] = rest {
+        let begins = !is_escaped && escapes(*b, more);
+        if !is_escaped && !begins && is_escapable(*b) {
+            text.push(b'\\')?;
+        }
+        text.push(*b)?;
+        is_escaped = begins;
+        rest = more;
+    }
+    Ok(())
+}
+
+// The tag that is meant by a text.
+fn text_of<'a, A: Allocator>(alloc: &'a A, tag: &[u8]) -> Result<Vec<u8, &'a A>, AllocError>
+    ensures { IfOk result (λ text. IsTag tag.now text.items) }
+{
     let mut text = Vec::new(alloc);
     text.push(b'[')?;
-    put_name(&mut text, parts.name)?;
+    push_name(&mut text, tag)?;
     text.extend_from_slice(b" \"")?;
-    put_value(
-        &mut text,
-        without_blanks(after(parts.value, blanks(parts.value))),
-    )?;
+    push_escaped(&mut text, value_of(tag))?;
     text.extend_from_slice(b"\"]")?;
     Ok(text)
 }
 
-// The tag at the start of a line, of its parts; nothing where a letter of it would be lost.
-fn tag_of<'t, 'a, A: Allocator>(
-    alloc: &'a A,
-    line: &'t [u8],
-    parts: Parts<'t>,
-) -> Result<Option<MendedTag<'t, 'a, A>>, AllocError>
-    ensures { IfOk result (λ found. IfSome found (λ tag. letters tag.was.now ≡ letters tag.text.items)) }
-{
-    let was = &line[..parts.length.min(line.len())];
-    let text = text_of(alloc, parts)?;
-    if !say_the_same(Sense::Letters, was, text.as_slice()) {
-        return Ok(None);
-    }
-    Ok(Some(MendedTag {
-        was,
-        text,
-        fault: parts.fault,
-    }))
+// The start of a text up to the end of its line, without blanks there; and whether the line goes on after it.
+fn line_of(text: &[u8]) -> (&[u8], bool) {
+    let first = &text[..text.len().min(LINE)];
+    let len = len_to(b'\n', first);
+    (
+        without_blanks(&first[..len.min(first.len())]),
+        len == first.len() && first.len() < text.len(),
+    )
 }
 
 /// The tag that is meant at the start of a text where strict reading takes none; nothing where none is meant.
@@ -230,17 +390,22 @@ pub fn mend_tag<'t, 'a, A: Allocator>(
     alloc: &'a A,
     text: &'t [u8],
 ) -> Result<Option<MendedTag<'t, 'a, A>>, AllocError>
-    ensures { IfOk result (λ found. IfSome found (λ tag. letters tag.was.now ≡ letters tag.text.items)) }
+    ensures { IfOk result (λ found. IfSome found (λ tag. IsTag tag.was.now tag.text.items)) }
 {
-    let line = without_blanks(&text[..len_to(b'\n', text).min(text.len())]);
+    let (line, goes_on) = line_of(text);
     let quote = len_to(b'"', line);
-    let parts = if quote < line.len() {
-        quoted(line, quote)
+    let extent = if quote < line.len() {
+        quoted(line, quote, goes_on)
     } else {
         unquoted(line)
     };
-    match parts {
-        None => Ok(None),
-        Some(parts) => tag_of(alloc, line, parts),
-    }
+    let Some(Extent { length, fault }) = extent else {
+        return Ok(None);
+    };
+    let was = &line[..length.min(line.len())];
+    Ok(Some(MendedTag {
+        was,
+        text: text_of(alloc, was)?,
+        fault,
+    }))
 }

@@ -1,0 +1,76 @@
+-- The text of a move, as it is read for what it says.
+--   mark         what a byte says between its neighbours: a man's capital letter, a file's small letter, a rank's digit, O for a circle of castling, = and a capital
+--                letter for the man that a pawn becomes, + or #; a sign between the parts of a move says nothing
+--   said         what all bytes say, one after the other
+--   meant        the text as a kind of repair takes it: the P of a pawn is left out, a man's small letter is large, a file's large letter is small; only the first
+--                byte, and for one kind each
+--   IsMove       a text says what another means
+use Rattle.std.specs.Prelude.{◌≡◌, ℕ, Bool, true, false, ◌||◌, ◌&&◌, ◌==◌, not, nat_le, ◌+◌, ◌-◌, if◌then◌else◌, List, [], ◌∷◌, ◌++◌}
+use Rattle.std.specs.Str.{byte}
+use Rattle.chess_repair.specs.declared.repair.RepairKind.{RepairKind}
+use Rattle.chess_repair.specs.declared.repair.RepairKind.TheVariants as k
+
+-- a rank's digit
+unfoldable pub is_rank : ℕ → Bool
+is_rank b = nat_le (byte "1") b && nat_le b (byte "8")
+
+-- the letter of a man that a pawn may become, of either size
+unfoldable pub is_piece : ℕ → Bool
+is_piece b = b == byte "Q" || b == byte "R" || b == byte "B" || b == byte "N" || b == byte "q" || b == byte "r" || b == byte "b" || b == byte "n"
+
+-- what comes before that letter: the rank of the pawn's last square, or a sign
+unfoldable pub ends_square : ℕ → Bool
+ends_square b = b == byte "1" || b == byte "8" || b == byte "=" || b == byte "/" || b == byte "("
+
+-- between the parts of a move
+unfoldable pub is_sign : ℕ → Bool
+is_sign b = b == byte "-" || b == byte ":" || b == byte "x" || b == byte "=" || b == byte "(" || b == byte ")" || b == byte "/"
+
+-- of castling
+unfoldable pub is_circle : ℕ → Bool
+is_circle b = b == byte "O" || b == byte "o" || b == byte "0"
+
+unfoldable pub capital : ℕ → ℕ
+capital b = if nat_le (byte "a") b && nat_le b (byte "z") then b - 32 else b
+
+unfoldable pub small : ℕ → ℕ
+small b = if nat_le (byte "A") b && nat_le b (byte "Z") then b + 32 else b
+
+abbrev pub has_rank_next : List ℕ → Bool
+has_rank_next [] = false
+has_rank_next (b ∷ more) = is_rank b
+
+-- a man's letter with a rank after it is that of a file, as in Ra8b8
+abbrev pub mark : ℕ → ℕ → List ℕ → List ℕ
+mark before b more =
+    if (is_piece b && ends_square before) && not (has_rank_next more) then byte "=" ∷ capital b ∷ []
+    else (if is_sign b then [] else (if is_circle b then byte "O" ∷ [] else b ∷ []))
+
+abbrev pub said_after : ℕ → List ℕ → List ℕ
+said_after before [] = []
+said_after before (b ∷ more) = mark before b more ++ said_after b more
+
+-- (no byte comes before the first)
+abbrev pub said : List ℕ → List ℕ
+said text = said_after 0 text
+
+-- a man's letter that is small; b is a file's
+unfoldable pub is_small : ℕ → Bool
+is_small b = b == byte "n" || b == byte "r" || b == byte "q" || b == byte "k"
+
+-- a file's letter that is large; B is the bishop's
+unfoldable pub is_large : ℕ → Bool
+is_large b = b == byte "A" || (nat_le (byte "C") b && nat_le b (byte "H"))
+
+abbrev pub first_meant : RepairKind → ℕ → List ℕ
+first_meant k.Pawn b = if b == byte "P" then [] else b ∷ []
+first_meant k.Small b = if is_small b then capital b ∷ [] else b ∷ []
+first_meant k.Large b = if is_large b then small b ∷ [] else b ∷ []
+first_meant _ b = b ∷ []
+
+abbrev pub meant : RepairKind → List ℕ → List ℕ
+meant kind [] = []
+meant kind (b ∷ more) = first_meant kind b ++ more
+
+abbrev pub IsMove : RepairKind → List ℕ → List ℕ → Type 0
+IsMove kind was now = said (meant kind was) ≡ said now

@@ -1,0 +1,102 @@
+-- Tags that strict reading refuses, and the tags that are meant.
+--   begins_tag      a tag begins here: a left bracket, a name and a quotation mark, with blanks between them or not
+--   after_quote     what comes after the first quotation mark
+--   name_in         the tag's name: the bytes of names, and those beyond ASCII, before the first quotation mark; where there is none, those of names before a blank
+--   rough_value     what comes after that mark, or that name
+--   value_in        the value: that text without a right bracket at its end, then without blanks and quotation marks there, and without blanks at its beginning
+--   escaped         a value with a backslash before each quotation mark and backslash, except before and after one that escapes already (PGN 7)
+--   tag_text        a tag as the standard has it (PGN 8.1.1)
+--   IsTag           the tag that is meant: this name, and this value
+use Rattle.std.specs.Prelude.{◌≡◌, ℕ, Bool, true, false, ◌||◌, ◌&&◌, ◌==◌, nat_le, if◌then◌else◌, List, [], ◌∷◌, ◌++◌, reverse, Option, Some, None, codes}
+use Rattle.std.specs.Str.{byte}
+use Rattle.chess_items.specs.Items.{is_blank, is_name_byte}
+use Rattle.chess_repair.specs.Runs.{has_first, past, past_end}
+
+unfoldable pub is_quote : ℕ → Bool
+is_quote b = b == byte "\""
+
+unfoldable pub is_bracket : ℕ → Bool
+is_bracket b = b == byte "]"
+
+-- a byte of names, or one beyond ASCII: what no repair of a tag may lose
+unfoldable pub is_kept : ℕ → Bool
+is_kept b = is_name_byte b || nat_le 128 b
+
+-- what a value doesn't end with
+unfoldable pub is_edge : ℕ → Bool
+is_edge b = is_blank b || is_quote b
+
+-- ---- where a tag begins
+
+abbrev pub has_name : List ℕ → Bool
+has_name text = has_first is_name_byte text && has_first is_quote (past is_blank (past is_name_byte text))
+
+abbrev pub begins_tag : List ℕ → Bool
+begins_tag [] = false
+begins_tag (b ∷ bs) = b == byte "[" && has_name (past is_blank bs)
+
+-- ---- the parts of a tag
+
+abbrev pub after_quote : List ℕ → Option (List ℕ)
+after_quote [] = None
+after_quote (b ∷ bs) = if is_quote b then Some bs else after_quote bs
+
+abbrev pub name_before_quote : List ℕ → List ℕ
+name_before_quote [] = []
+name_before_quote (b ∷ bs) = if is_quote b then [] else (if is_kept b then b ∷ name_before_quote bs else name_before_quote bs)
+
+abbrev pub first_name : List ℕ → List ℕ
+first_name [] = []
+first_name (b ∷ bs) = if is_name_byte b then b ∷ first_name bs else []
+
+-- what comes after the bracket at the beginning, and blanks
+abbrev pub after_bracket : List ℕ → List ℕ
+after_bracket [] = []
+after_bracket (b ∷ bs) = past is_blank bs
+
+abbrev pub name_with : Option (List ℕ) → List ℕ → List ℕ
+name_with (Some value) tag = name_before_quote tag
+name_with None tag = first_name (after_bracket tag)
+
+abbrev pub rough_with : Option (List ℕ) → List ℕ → List ℕ
+rough_with (Some value) tag = value
+rough_with None tag = past is_name_byte (after_bracket tag)
+
+abbrev pub name_in : List ℕ → List ℕ
+name_in tag = name_with (after_quote tag) tag
+
+abbrev pub rough_value : List ℕ → List ℕ
+rough_value tag = rough_with (after_quote tag) tag
+
+abbrev pub but_bracket : List ℕ → List ℕ
+but_bracket [] = []
+but_bracket (b ∷ bs) = if is_bracket b then bs else b ∷ bs
+
+-- without one right bracket at the end
+abbrev pub unclosed : List ℕ → List ℕ
+unclosed text = reverse (but_bracket (reverse text))
+
+abbrev pub value_in : List ℕ → List ℕ
+value_in tag = past is_blank (past_end is_edge (unclosed (rough_value tag)))
+
+-- ---- a tag as it is written
+
+-- a quotation mark or a backslash
+unfoldable pub is_escapable : ℕ → Bool
+is_escapable b = is_quote b || b == byte "\\"
+
+-- a backslash escapes what comes next
+abbrev pub escapes : ℕ → List ℕ → Bool
+escapes b bs = b == byte "\\" && has_first is_escapable bs
+
+-- (the flag: the byte before escapes this one)
+abbrev pub escaped : Bool → List ℕ → List ℕ
+escaped is_escaped [] = []
+escaped true (b ∷ bs) = b ∷ escaped false bs
+escaped false (b ∷ bs) = if escapes b bs then b ∷ escaped true bs else (if is_escapable b then byte "\\" ∷ b ∷ escaped false bs else b ∷ escaped false bs)
+
+abbrev pub tag_text : List ℕ → List ℕ → List ℕ
+tag_text name value = codes "[" ++ (name ++ (codes " \"" ++ (escaped false value ++ codes "\"]")))
+
+abbrev pub IsTag : List ℕ → List ℕ → Type 0
+IsTag was now = now ≡ tag_text (name_in was) (value_in was)
