@@ -3,7 +3,7 @@ use Rattle.std.proofs.Common.{◌≡◌, ℕ, ◌+◌, ◌≤◌, true, List, []
 use Rattle.std.specs.List.{list_all}
 use Rattle.chess_items.specs.Items.{is_glyph}
 use Rattle.chess_repair.specs.declared.repair.RepairKind.TheVariants as k
-use Rattle.chess_repair.specs.Repairs.{IsPutIn, IsRepair, Rewrites, padded}
+use Rattle.chess_repair.specs.Repairs.{IsRepair, Rewrites, padded}
 use Rattle.chess_repair.specs.declared.repair.Repair.{Repair}
 
 -- what is left has no more bytes than the text
@@ -84,13 +84,3 @@ one_more_so size text rs rs' out out' left was rest now wide repair r parts is p
 -- the first two signs of annotation
 pub first_two : (xs : List ℕ) → 2 ≤ length xs → list_all is_glyph xs ≡ true → IsRepair k.Glyphs xs (take 2 xs)
 first_two xs long all = (drop 2 xs, sym (take-append-drop 2 xs), (let e = length-take 2 xs in omega (arith, e, long)), all)
-
--- bytes instead of others
-pub put_in : (put was before rest field after first second new : List ℕ) (n m : ℕ) → before ≡ take n was → rest ≡ drop n was → after ≡ drop m rest → first ≡ before → second ≡ first ++ put → new ≡ second ++ after → IsPutIn put was new
-put_in put was before rest field after first second new n m eb er ea ef es en = (
-  before,
-  take m rest,
-  after,
-  (sym (take-append-drop n was) ∙ ap (λ (z : List ℕ). z ++ drop n was) (sym eb) ∙ ap (λ (z : List ℕ). before ++ z) (sym er ∙ sym (take-append-drop m rest) ∙ ap (λ (z : List ℕ). take m rest ++ z) (sym ea))),
-  (en ∙ ap (λ (z : List ℕ). z ++ after) (es ∙ ap (λ (z : List ℕ). z ++ put) ef) ∙ append_assoc before put after),
-)

@@ -3,6 +3,7 @@ pub mod Runs
 pub mod Words
 pub mod Moves
 pub mod Tags
+pub mod Fens
 pub mod Repairs
 pub mod Spelled
 pub mod Letters

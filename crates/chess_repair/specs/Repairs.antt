@@ -1,15 +1,13 @@
 -- Texts that are written anew, so that they may be read.
 --   quoted     a text as a comment, after a head
---   IsPutIn    a text is another with this instead of some bytes
---   IsMore     the fields that a FEN lacks
---   IsFen      what may be written for a FEN's tag
 --   IsRepair   what may be written for some bytes, by the kind of the repair
 --   padded     what is written for them: between two spaces, but within a word, and at the end
 --   Rewrites   a text is written anew up to what is left of it: the repairs, in order, with their places and lengths; all bytes between them are as they were
 use Rattle.std.specs.Prelude.{◌≡◌, ◌⊎◌, ℕ, ◌+◌, true, not, List, [], ◌∷◌, ◌++◌, length, map, Some, codes}
 use Rattle.std.specs.List.{list_all}
 use Rattle.chess_items.specs.Items.{is_glyph, is_name_byte}
-use Rattle.chess_repair.specs.Words.{castling_of, is_right, is_said, quiet, result_of, sign_of, number_for}
+use Rattle.chess_repair.specs.Words.{castling_of, is_said, quiet, result_of, sign_of, number_for}
+use Rattle.chess_repair.specs.Fens.{IsFen}
 use Rattle.chess_repair.specs.Moves.{IsMove}
 use Rattle.chess_repair.specs.Tags.{IsTag}
 use Rattle.chess_repair.specs.declared.repair.Repair.{Repair}
@@ -22,18 +20,6 @@ quoted head was = codes "{" ++ (head ++ (map quiet was ++ codes "}"))
 -- no letter and no digit is lost
 abbrev pub SaysNothing : List ℕ → Type 0
 SaysNothing was = list_all (λ b. not (is_name_byte b)) was ≡ true
-
--- it is instead of some bytes
-abbrev pub IsPutIn : List ℕ → List ℕ → List ℕ → Type 0
-IsPutIn put was now = (before field after : List ℕ) × (was ≡ before ++ (field ++ after)) × (now ≡ before ++ (put ++ after))
-
--- the fields that a FEN lacks: no target, and the counters 0 and 1, or the second of them
-abbrev pub IsMore : List ℕ → Type 0
-IsMore more = (more ≡ codes " - 0 1") ⊎ (more ≡ codes " 1")
-
--- a FEN's tag is left out, or it gets the fields that it lacks, or castling rights in the standard's letters
-abbrev pub IsFen : List ℕ → List ℕ → Type 0
-IsFen was now = (now ≡ []) ⊎ ((put : List ℕ) × IsPutIn put was now × (IsMore put ⊎ (list_all is_right put ≡ true)))
 
 abbrev pub IsRepair : RepairKind → List ℕ → List ℕ → Type 0
 IsRepair k.TagQuotes was now = IsTag was now

@@ -1,17 +1,12 @@
 -- Bytes and words of games as people write them.
---   is_right    a castling right, or the sign of none
 --   quiet       a byte as it may be in a comment: no brace, and no bracket
 --   number_for  the annotation number for a word of evaluation, as it is written
 --   is_said     words for what the move itself says
 --   result_of   the marker for a result in another form
 --   castling_of  castling for the squares of king and rook
 --   sign_of     what is written for a dash, a sign of captures or a figurine of UTF-8 within a word
-use Rattle.std.specs.Prelude.{ℕ, Bool, ◌||◌, ◌&&◌, ◌==◌, nat_le, ◌+◌, if◌then◌else◌, List, [], ◌∷◌, Option, Some, None, codes, bytes_eq}
+use Rattle.std.specs.Prelude.{ℕ, Bool, ◌||◌, ◌==◌, if◌then◌else◌, List, [], ◌∷◌, Option, Some, None, codes, bytes_eq}
 use Rattle.std.specs.Str.{byte}
-
--- a castling right as a FEN has it, or the sign of none
-unfoldable pub is_right : ℕ → Bool
-is_right b = b == byte "K" || b == byte "Q" || b == byte "k" || b == byte "q" || b == byte "-"
 
 unfoldable pub quiet : ℕ → ℕ
 quiet b = if b == byte "{" || b == byte "[" then byte "(" else (if b == byte "}" || b == byte "]" then byte ")" else b)

@@ -13,9 +13,9 @@ use std::alloc::{AllocError, Allocator};
 /// The most bytes of a line that are looked at for the end of its tag.
 const LINE: usize = 4_096;
 
-// A quotation mark.
+/// A quotation mark.
 #[tactic(auto, unfolding(crate::specs::Tags::is_quote))]
-fn is_quote(b: u8) -> bool
+pub fn is_quote(b: u8) -> bool
     ensures { result ≡ is_quote b }
 {
     b == b'"'
