@@ -1,28 +1,34 @@
 -- Texts with letters written as the standard's.
-use Rattle.std.proofs.Common.{◌≡◌, inl, inr, ℕ, zero, suc, ◌<◌, List, [], ◌∷◌, length, Option, Some, None, refl, arith}
-use Rattle.std.specs.List.{slice_index_or, slice_set}
-use Rattle.chess_repair.specs.Letters.{IsInLetters, IsRespelled, standard}
+use Rattle.std.proofs.Common.{◌≡◌, inl, ℕ, ◌<◌, List, [], ◌∷◌, ◌++◌, length, Option, Some, None, refl, subst, arith, append-nil}
+use Rattle.chess_repair.specs.Letters.{IsInLetters, IsRespelled, IsRespelledAfter, after_byte}
 use Rattle.chess_repair.specs.declared.letters.Letters.{Letters}
+use Rattle.chess_repair.specs.declared.standing.Standing.{Standing}
+use Rattle.chess_repair.specs.declared.standing.Standing.TheVariants as place
 
 -- a text is spelled as it is
-pub respelled_same : (l : Letters) (text : List ℕ) → IsRespelled l text text
-respelled_same l [] = tt
-respelled_same l (b ∷ text) = (inl refl, respelled_same l text)
+respelled_same : (l : Letters) (s : Standing) (text : List ℕ) → IsRespelledAfter l s text text
+respelled_same l s [] = tt
+respelled_same l s (b ∷ text) = (inl refl, respelled_same l (after_byte s b) text)
 
 pub in_letters_same : (letters : Option Letters) (text : List ℕ) → IsInLetters letters text text
 in_letters_same None text = refl
-in_letters_same (Some l) text = respelled_same l text
+in_letters_same (Some l) text = respelled_same l place.Line text
 
 -- no byte more, and none less
-pub respelled_length : (l : Letters) (text spelt : List ℕ) → IsRespelled l text spelt → length spelt ≡ length text
-respelled_length l [] [] r = refl
-respelled_length l [] (c ∷ spelt) r = absurd r
-respelled_length l (b ∷ text) [] r = absurd r
-respelled_length l (b ∷ text) (c ∷ spelt) r = omega (arith, respelled_length l text spelt r.1)
+same_length : (l : Letters) (s : Standing) (text spelt : List ℕ) → IsRespelledAfter l s text spelt → length spelt ≡ length text
+same_length l s [] [] r = refl
+same_length l s [] (c ∷ spelt) r = absurd r
+same_length l s (b ∷ text) [] r = absurd r
+same_length l s (b ∷ text) (c ∷ spelt) r = omega (arith, same_length l (after_byte s b) text spelt r.1)
 
--- a letter more
-pub respelled_more : (l : Letters) (text spelt : List ℕ) (at d : ℕ) → IsRespelled l text spelt → at < length text → IsRespelled l text (slice_set spelt at (standard l (slice_index_or text at d)))
-respelled_more l [] spelt at d r low = absurd (let none : ⊥ = omega (arith, low) in none)
-respelled_more l (b ∷ text) [] at d r low = absurd r
-respelled_more l (b ∷ text) (c ∷ spelt) zero d r low = (inr refl, r.1)
-respelled_more l (b ∷ text) (c ∷ spelt) (suc at) d r low = (r.0, respelled_more l text spelt at d r.1 (omega (arith, low)))
+pub respelled_length : (l : Letters) (text spelt : List ℕ) → IsRespelled l text spelt → length spelt ≡ length text
+respelled_length l text spelt r = same_length l place.Line text spelt r
+
+-- a text is spelled up to a rest of it: with that, however it is spelled
+abbrev pub IsSpeltTo : Letters → List ℕ → List ℕ → Standing → List ℕ → Type 0
+IsSpeltTo l text spelt s rest = (end : List ℕ) → IsRespelledAfter l s rest end → IsRespelled l text (spelt ++ end)
+
+-- all of it
+pub spelt_whole : (l : Letters) (text spelt rest : List ℕ) (s : Standing) → IsSpeltTo l text spelt s rest → length rest < 1 → IsRespelled l text spelt
+spelt_whole l text spelt [] s r none = subst (λ (z : List ℕ). IsRespelled l text z) (append-nil spelt) (r [] tt)
+spelt_whole l text spelt (b ∷ rest) s r none = absurd (let no : ⊥ = omega (arith, none) in no)

@@ -16,6 +16,7 @@ mod respelling;
 mod runs;
 mod senses;
 mod spelling;
+mod standing;
 mod tags;
 mod words;
 

@@ -1,10 +1,11 @@
 //! A text whose moves have the piece letters of another language, written in the standard's.
 
 ghost use Rattle.std.specs.Prelude.{◌≡◌, length, IfOk, IfSome};
-ghost use Rattle.chess_repair.specs.Letters.{IsInLetters, IsRespelled};
+ghost use Rattle.chess_repair.specs.Letters.{IsInLetters, IsRespelled, IsSpeltAs};
 
 use crate::letters::Letters;
 use crate::spelling::letters_in;
+use crate::standing::Standing;
 use std::alloc::{AllocError, Allocator};
 
 /// The name of such a repair, of one byte.
@@ -18,31 +19,48 @@ pub struct Respelled<'a, A: Allocator> {
     pub places: Vec<usize, &'a A>,
 }
 
-// Writes the letter at a place of a text as the standard's.
-fn put_letter<A: Allocator>(letters: Letters, text: &[u8], at: usize, spelt: &mut Vec<u8, &A>)
-    requires { IsRespelled letters text.now spelt.old.items }
-    ensures { IsRespelled letters text.now spelt.new.items }
+// What is written for a byte: the standard's letter, where that is asked for and the byte stands among the moves.
+fn spelt_as(letters: Letters, standing: Standing, b: u8, is_asked: bool) -> u8
+    ensures { IsSpeltAs letters standing b result }
 {
-    if at >= text.len() || at >= spelt.len() {
-        return;
+    if is_asked && standing.is_of_moves() {
+        letters.standard(b)
+    } else {
+        b
     }
-    spelt[at] = letters.standard(text[at]);
 }
 
-// The text with the letters at some places as the standard's.
+// The text with the letters at some places, in their order, as the standard's; the places of those that stand among the moves.
 fn written<'a, A: Allocator>(
     alloc: &'a A,
     letters: Letters,
     text: &[u8],
     places: &[usize],
-) -> Result<Vec<u8, &'a A>, AllocError>
-    ensures { IfOk result (λ spelt. IsRespelled letters text.now spelt.items) }
+) -> Result<Respelled<'a, A>, AllocError>
+    ensures { IfOk result (λ r. IsRespelled letters text.now r.text.items) }
 {
-    let mut spelt = Vec::from_slice(alloc, text)?;
-    for place in places {
-        put_letter(letters, text, *place, &mut spelt);
+    let mut spelt = Vec::new(alloc);
+    let mut put = Vec::new(alloc);
+    let mut standing = Standing::Line;
+    let mut asked = places;
+    let mut rest = text;
+    while let [b, more @ ..] = rest {
+        let at = text.len().saturating_sub(rest.len());
+        let is_asked = asked.first() == Some(&at);
+        if is_asked {
+            asked = &asked[1..];
+        }
+        if is_asked && standing.is_of_moves() {
+            put.push(at)?;
+        }
+        spelt.push(spelt_as(letters, standing, *b, is_asked))?;
+        standing = standing.after_byte(*b);
+        rest = more;
     }
-    Ok(spelt)
+    Ok(Respelled {
+        text: spelt,
+        places: put,
+    })
 }
 
 /// The text with the letters of men in the moves of the game at its start written as the standard's, where letters of a language are given; nothing, where no
@@ -65,9 +83,9 @@ pub fn respell<'a, A: Allocator>(
         return Ok(None);
     };
     let places = letters_in(alloc, letters, text)?;
-    if places.is_empty() {
+    let found = written(alloc, letters, text, places.as_slice())?;
+    if found.places.is_empty() {
         return Ok(None);
     }
-    let text = written(alloc, letters, text, places.as_slice())?;
-    Ok(Some(Respelled { text, places }))
+    Ok(Some(found))
 }
