@@ -3,7 +3,7 @@ use Rattle.std.proofs.Common.{◌≡◌, ℕ, ◌+◌, ◌≤◌, true, List, []
 use Rattle.std.specs.List.{list_all}
 use Rattle.chess_items.specs.Items.{is_glyph}
 use Rattle.chess_repair.specs.declared.repair.RepairKind.TheVariants as k
-use Rattle.chess_repair.specs.Repairs.{IsRepair, Rewrites, padded}
+use Rattle.chess_repair.specs.Repairs.{IsRepair, MayStand, Rewrites, padded}
 use Rattle.chess_repair.specs.declared.repair.Repair.{Repair}
 
 -- what is left has no more bytes than the text
@@ -40,7 +40,7 @@ kept_so size n text rs out left front back new r f b e =
     subst (λ (z : List ℕ). Rewrites size text rs z back) (sym e) (kept_more size text rs out front back (subst (λ (z : List ℕ). Rewrites size text rs out z) whole r))
 
 -- a repair
-pub one_more : (size : ℕ) (text : List ℕ) (rs : List Repair) (out was rest now : List ℕ) (repair : Repair) → Rewrites size text rs out (was ++ rest) → IsRepair repair.kind was now → repair.place + length (was ++ rest) ≡ size → repair.length ≡ length was
+pub one_more : (size : ℕ) (text : List ℕ) (rs : List Repair) (out was rest now : List ℕ) (repair : Repair) → Rewrites size text rs out (was ++ rest) → MayStand repair.kind was now rest → repair.place + length (was ++ rest) ≡ size → repair.length ≡ length was
     → repair.written ≡ length (padded repair.kind now) → Rewrites size text (rs ++ repair ∷ []) (out ++ padded repair.kind now) rest
 one_more size text [] out was rest now repair r is place long wide = (
   out,
@@ -72,7 +72,7 @@ one_more size text (first ∷ rs) out was rest now repair (kept, was', others, n
 )
 
 -- as it is written by the code
-pub one_more_so : (size : ℕ) (text : List ℕ) (rs rs' : List Repair) (out out' left was rest now wide : List ℕ) (repair : Repair) → Rewrites size text rs out left → left ≡ was ++ rest → IsRepair repair.kind was now → repair.place + length left ≡ size
+pub one_more_so : (size : ℕ) (text : List ℕ) (rs rs' : List Repair) (out out' left was rest now wide : List ℕ) (repair : Repair) → Rewrites size text rs out left → left ≡ was ++ rest → MayStand repair.kind was now rest → repair.place + length left ≡ size
     → repair.length ≡ length was → wide ≡ padded repair.kind now → repair.written ≡ length wide → rs' ≡ rs ++ repair ∷ [] → out' ≡ out ++ wide → Rewrites size text rs' out' rest
 one_more_so size text rs rs' out out' left was rest now wide repair r parts is place long pads written listed put =
     let here = subst (λ (z : List ℕ). Rewrites size text rs out z) parts r in
@@ -84,3 +84,7 @@ one_more_so size text rs rs' out out' left was rest now wide repair r parts is p
 -- the first two signs of annotation
 pub first_two : (xs : List ℕ) → 2 ≤ length xs → list_all is_glyph xs ≡ true → IsRepair k.Glyphs xs (take 2 xs)
 first_two xs long all = (drop 2 xs, sym (take-append-drop 2 xs), (let e = length-take 2 xs in omega (arith, e, long)), all)
+
+-- the two parts of a text
+pub split_so : (text front back : List ℕ) (n : ℕ) → front ≡ take n text → back ≡ drop n text → text ≡ front ++ back
+split_so text front back n f b = sym (take-append-drop n text) ∙ ap (λ (z : List ℕ). z ++ drop n text) (sym f) ∙ ap (λ (z : List ℕ). front ++ z) (sym b)

@@ -1,12 +1,15 @@
 -- Texts that are written anew, so that they may be read.
 --   quoted     a text as a comment, after a head
 --   IsRepair   what may be written for some bytes, by the kind of the repair
+--   IsRepairBefore  what may be, by what comes after those bytes: an end that is put in, and text that belongs to no game
+--   MayStand   the one or the other
 --   padded     what is written for them: between two spaces, but within a word, and at the end
 --   Rewrites   a text is written anew up to what is left of it: the repairs, in order, with their places and lengths; all bytes between them are as they were
 use Rattle.std.specs.Prelude.{◌≡◌, ◌⊎◌, ℕ, ◌+◌, true, not, List, [], ◌∷◌, ◌++◌, length, map, Some, codes}
 use Rattle.std.specs.List.{list_all}
 use Rattle.chess_items.specs.Items.{is_glyph, is_name_byte}
 use Rattle.chess_repair.specs.Words.{castling_of, is_said, quiet, result_of, sign_of, number_for}
+use Rattle.chess_repair.specs.Ends.{EndsGame, ends_comment, is_prose}
 use Rattle.chess_repair.specs.Fens.{IsFen}
 use Rattle.chess_repair.specs.Moves.{IsMove}
 use Rattle.chess_repair.specs.Tags.{IsTag}
@@ -52,11 +55,21 @@ IsRepair k.Dots was now = (was ≡ 226 ∷ 128 ∷ 166 ∷ []) × (now ≡ codes
 IsRepair k.Space was now = SaysNothing was × (now ≡ [])
 IsRepair k.Control was now = SaysNothing was × (now ≡ [])
 IsRepair k.Stray was now = SaysNothing was × (now ≡ [])
-IsRepair k.Comment was now = (was ≡ []) × (now ≡ codes "}")
-IsRepair k.Unclosed was now = (was ≡ []) × (now ≡ 10 ∷ codes ")")
-IsRepair k.Prose was now = now ≡ []
+IsRepair k.Comment was now = ⊥
+IsRepair k.Unclosed was now = ⊥
+IsRepair k.Prose was now = ⊥
 IsRepair k.Fen was now = IsFen was now
 IsRepair k.Squares was now = castling_of was ≡ Some now
+
+-- these are said of what the text goes on with
+abbrev pub IsRepairBefore : RepairKind → List ℕ → List ℕ → List ℕ → Type 0
+IsRepairBefore k.Comment was now others = (was ≡ []) × (now ≡ codes "}") × (ends_comment others ≡ true)
+IsRepairBefore k.Unclosed was now others = (was ≡ []) × (now ≡ 10 ∷ codes ")") × EndsGame others
+IsRepairBefore k.Prose was now others = (now ≡ []) × (is_prose true was others ≡ true)
+IsRepairBefore _ was now others = ⊥
+
+abbrev pub MayStand : RepairKind → List ℕ → List ℕ → List ℕ → Type 0
+MayStand kind was now others = IsRepair kind was now ⊎ IsRepairBefore kind was now others
 
 -- a sign is within a word
 abbrev pub padded : RepairKind → List ℕ → List ℕ
@@ -68,4 +81,4 @@ abbrev pub Rewrites : ℕ → List ℕ → List Repair → List ℕ → List ℕ
 Rewrites size text [] out rest = text ≡ out ++ rest
 Rewrites size text (r ∷ rs) out rest =
     (kept was others now more : List ℕ) × (text ≡ kept ++ (was ++ others)) × (out ≡ kept ++ (padded r.kind now ++ more)) × (r.place + length (was ++ others) ≡ size) × (r.length ≡ length was)
-    × (r.written ≡ length (padded r.kind now)) × IsRepair r.kind was now × Rewrites size others rs more rest
+    × (r.written ≡ length (padded r.kind now)) × MayStand r.kind was now others × Rewrites size others rs more rest

@@ -1,5 +1,6 @@
 -- Tags that strict reading refuses, and the tags that are meant.
 --   begins_tag      a tag begins here: a left bracket, a name and a quotation mark, with blanks between them or not
+--   opens_tag       a tag may begin here: a left bracket and a byte of a name
 --   after_quote     what comes after the first quotation mark
 --   name_in         the tag's name: the bytes of names, and those beyond ASCII, before the first quotation mark; where there is none, those of names before a blank
 --   rough_value     what comes after that mark, or that name
@@ -34,6 +35,11 @@ has_name text = has_first is_name_byte text && has_first is_quote (past is_blank
 abbrev pub begins_tag : List ℕ → Bool
 begins_tag [] = false
 begins_tag (b ∷ bs) = b == byte "[" && has_name (past is_blank bs)
+
+-- a tag may begin here
+abbrev pub opens_tag : List ℕ → Bool
+opens_tag [] = false
+opens_tag (b ∷ bs) = b == byte "[" && has_first is_name_byte (past is_blank bs)
 
 -- ---- the parts of a tag
 

@@ -6,6 +6,7 @@
 #![tactic(auto)]
 
 mod cut;
+mod ends;
 mod fen;
 mod letters;
 mod marks;

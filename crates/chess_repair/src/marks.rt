@@ -72,9 +72,14 @@ pub fn after(bytes: &[u8], len: usize) -> &[u8] {
     &bytes[len.min(bytes.len())..]
 }
 
+/// Punctuation that belongs to no item.
+pub fn is_stray(b: u8) -> bool {
+    matches!(b, b',' | b'&' | b'\'' | b'"' | b'`' | b'^' | b'|' | b'\\' | b'%')
+}
+
 // A byte of a word: what is no item of its own.
 fn is_lump(b: u8) -> bool {
-    !matches!(
+    !is_stray(b) && !matches!(
         b,
         0..=32
             | 127

@@ -1,9 +1,10 @@
 //! A text that is written anew: what is kept of it, and what is repaired.
 
-ghost use Rattle.std.specs.Prelude.{◌≡◌, ◌+◌, ◌++◌, List, ℕ, IfErr, IfOk, IfSome, length, map};
+ghost use Rattle.std.specs.Prelude.{◌≡◌, ◌+◌, ◌∷◌, ◌++◌, [], List, ℕ, IfOk, IfSome, OnErr, OnOk, length};
 ghost use Rattle.chess_repair.specs.Repairs.{IsRepair, Rewrites, padded, quoted};
 ghost use Rattle.chess_repair.specs.Words.{quiet};
 
+use crate::ends::{ends_comment, ends_game, is_prose, is_result};
 use crate::repair::{Repair, RepairKind};
 use std::alloc::{AllocError, Allocator};
 use std::marker::Model;
@@ -89,6 +90,26 @@ fn quoted<'a, A: Allocator>(
     Ok(text)
 }
 
+// Adds a repair, and what is written for it; nothing where there is no memory.
+fn put<'a, A: Allocator>(
+    repairs: &mut Vec<Repair, &'a A>,
+    out: &mut Vec<u8, &'a A>,
+    repair: Repair,
+    text: &[u8],
+) -> Result<(), AllocError>
+    ensures repairs { OnOk result (repairs.new.items ≡ repairs.old.items ++ repair ∷ []) }
+    ensures text { OnOk result (out.new.items ≡ out.old.items ++ text.now) }
+    ensures no_repairs { OnErr result (repairs.new.items ≡ repairs.old.items) }
+    ensures no_text { OnErr result (out.new.items ≡ out.old.items) }
+{
+    repairs.push(repair)?;
+    if let Err(fault) = out.extend_from_slice(text) {
+        let _ = repairs.pop();
+        return Err(fault);
+    }
+    Ok(())
+}
+
 impl<'t, 'a, A: Allocator> Pen<'t, 'a, A> {
     /// At the beginning of a text.
     pub fn new(alloc: &'a A, text: &'t [u8]) -> Pen<'t, 'a, A>
@@ -144,17 +165,68 @@ impl<'t, 'a, A: Allocator> Pen<'t, 'a, A> {
             written: text.len(),
             kind,
         };
-        self.repairs.push(repair)?;
-        match self.out.extend_from_slice(text.as_slice()) {
-            Ok(()) => {
-                self.rest = rest;
-                Ok(())
-            }
-            Err(fault) => {
-                let _ = self.repairs.pop();
-                Err(fault)
-            }
+        put(&mut self.repairs, &mut self.out, repair, text.as_slice())?;
+        self.rest = rest;
+        Ok(())
+    }
+
+    /// Closes a comment, if the text ends here or a tag section comes.
+    pub fn close_comment(&mut self) -> Result<(), AllocError>
+        ensures { self.new ≡ self.old }
+    {
+        let left = self.rest;
+        if !ends_comment(left) {
+            return Ok(());
         }
+        let repair = Repair {
+            place: self.text.len() - left.len(),
+            length: 0,
+            written: 3,
+            kind: RepairKind::Comment,
+        };
+        put(&mut self.repairs, &mut self.out, repair, b" } ")?;
+        Ok(())
+    }
+
+    /// Closes some variations, if the game ends after the next bytes, which are its result or none.
+    pub fn close(&mut self, count: u32, result_len: usize) -> Result<(), AllocError>
+        ensures { self.new ≡ self.old }
+    {
+        let left = self.rest;
+        let (word, more) = left.split_at(result_len.min(left.len()));
+        if !is_result(word) || !ends_game(more) {
+            return Ok(());
+        }
+        let repair = Repair {
+            place: self.text.len() - left.len(),
+            length: 0,
+            written: 4,
+            kind: RepairKind::Unclosed,
+        };
+        for _ in 0..count {
+            put(&mut self.repairs, &mut self.out, repair, b" \n) ")?;
+        }
+        Ok(())
+    }
+
+    /// Leaves out the next bytes, if no line of theirs begins with a tag.
+    pub fn pass_over(&mut self, len: usize) -> Result<(), AllocError>
+        ensures { self.new ≡ self.old }
+    {
+        let left = self.rest;
+        let (was, rest) = left.split_at(len.min(left.len()));
+        if !is_prose(was, rest, left) {
+            return Ok(());
+        }
+        let repair = Repair {
+            place: self.text.len() - left.len(),
+            length: was.len(),
+            written: 2,
+            kind: RepairKind::Prose,
+        };
+        put(&mut self.repairs, &mut self.out, repair, b"  ")?;
+        self.rest = rest;
+        Ok(())
     }
 
     /// Writes the next bytes, if they are these, as a comment after a head.

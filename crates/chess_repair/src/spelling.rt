@@ -5,14 +5,16 @@ ghost use Rattle.chess_repair.specs.Repairs.{IsRepair, SaysNothing, quoted};
 ghost use Rattle.chess_repair.specs.Tags.{IsTag};
 ghost use Rattle.chess_repair.specs.Spelled.{IsRewritten};
 
+use crate::ends::ends_game;
 use crate::letters::Letters;
 use crate::marks::{
-    after, are_glyphs, blanks, digits, glyphs, is_blank, is_name, len_to, lump_len, say_nothing,
+    after, are_glyphs, blanks, digits, glyphs, is_blank, is_name, is_stray, len_to, lump_len,
+    say_nothing,
 };
 use crate::moves::{is_form, mend};
 use crate::pen::Pen;
 use crate::repair::{Repair, RepairKind};
-use crate::tags::{MendedTag, TagFault, mend_tag, opens_tag, tag_len};
+use crate::tags::{MendedTag, TagFault, begins_tag, mend_tag, opens_tag, tag_len};
 use crate::words::{is_marker, is_said, result_of, sign_of, value_of};
 use chess_items::is;
 use std::alloc::{AllocError, Allocator};
@@ -70,23 +72,16 @@ impl<'t, 'a, A: Allocator> Model for Spelling<'t, 'a, A> {
     ghost view = { λ s. s.pen };
 }
 
-// Whether the next bytes end a line with whitespace alone, and then the text ends or a tag begins.
-fn ends_game(rest: &[u8]) -> bool {
-    let next = after(rest, blanks(rest));
-    next.is_empty() || opens_tag(next)
-}
-
 // Whether the text ends in whitespace that ends a line, or is empty.
 fn is_line_start(before: &[u8]) -> bool {
-    let mut is_start = true;
-    for b in before {
-        is_start = match b {
-            b'\n' => true,
-            9 | 11..=13 | b' ' | 0xef | 0xbb | 0xbf => is_start,
-            _ => false,
-        };
+    for b in before.iter().rev() {
+        match *b {
+            b'\n' => return true,
+            9 | 11..=13 | b' ' | 0xef | 0xbb | 0xbf => {}
+            _ => return false,
+        }
     }
-    is_start
+    true
 }
 
 // How many bytes come before the next tag that is first on its line, after the first byte.
@@ -101,27 +96,41 @@ fn len_to_tag(text: &[u8]) -> usize {
     text.len()
 }
 
-// Whether an empty line comes with the line feed at the start of the text, and then a tag.
-fn is_section(text: &[u8]) -> bool {
-    let more = after(text, 1);
-    let blank = more
-        .iter()
-        .take_while(|b| matches!(**b, b' ' | b'\t' | b'\r'))
-        .count();
-    match after(more, blank) {
-        [b'\n', next @ ..] => opens_tag(after(next, blanks(next))),
-        _ => false,
-    }
+/// How a comment ends.
+#[derive(Clone, Copy, PartialEq, Eq)]
+enum CommentEnd {
+    /// With its right brace.
+    Brace,
+    /// Before an empty line and a tag.
+    Section,
+    /// With the text.
+    Text,
 }
 
-// How many bytes a comment without its right brace has: up to the next empty line that comes before a tag.
-fn len_to_section(text: &[u8]) -> usize {
-    for at in 0..text.len() {
-        if text[at] == b'\n' && is_section(&text[at..]) {
-            return at;
+// How many bytes the comment at the start of a text has, and how it ends: with the first right brace, or before an empty line after which a tag begins.
+fn comment_end(text: &[u8]) -> (usize, CommentEnd) {
+    let mut feed = None;
+    let mut has_empty_line = false;
+    for at in 1..text.len() {
+        match text[at] {
+            b'}' => return (at.saturating_add(1), CommentEnd::Brace),
+            b'\n' => {
+                has_empty_line = feed.is_some();
+                feed = feed.or(Some(at));
+            }
+            b if is_blank(b) => {}
+            b => {
+                if let Some(feed) = feed {
+                    if has_empty_line && b == b'[' && begins_tag(&text[at..]) {
+                        return (feed, CommentEnd::Section);
+                    }
+                }
+                feed = None;
+                has_empty_line = false;
+            }
         }
     }
-    text.len()
+    (text.len(), CommentEnd::Text)
 }
 
 // An aside in these brackets on one line at the start of a text, which holds none of them and no braces; nothing where it is none.
@@ -315,13 +324,11 @@ impl<'t, 'a, A: Allocator> Spelling<'t, 'a, A> {
         self.pen.quote(was, kind, b"")
     }
 
-    // Closes the variations that are open.
-    fn close(&mut self) -> Result<(), AllocError>
+    // Closes the variations that are open, before a result of some bytes.
+    fn close(&mut self, result_len: usize) -> Result<(), AllocError>
         ensures { self.new ≡ self.old }
     {
-        for _ in 0..self.depth {
-            self.pen.mend(b"", RepairKind::Unclosed, b"\n)")?;
-        }
+        self.pen.close(self.depth, result_len)?;
         self.depth = 0;
         Ok(())
     }
@@ -334,7 +341,7 @@ impl<'t, 'a, A: Allocator> Spelling<'t, 'a, A> {
             if !ends_game(after(self.pen.rest(), word.len())) {
                 return self.quote(word, RepairKind::Marker);
             }
-            self.close()?;
+            self.close(word.len())?;
         }
         self.is_over = true;
         self.has_moves = true;
@@ -344,19 +351,23 @@ impl<'t, 'a, A: Allocator> Spelling<'t, 'a, A> {
         }
     }
 
-    // A left brace.
+    // A left brace. A comment that isn't closed before the tags of the next game ends this game.
     fn comment(&mut self, rest: &[u8]) -> Result<(), AllocError>
         ensures { self.new ≡ self.old }
     {
-        let len = len_to(b'}', rest);
-        if len < rest.len() {
-            self.is_apart = true;
-            self.last = Last::Noted;
-            self.is_nested = after(&rest[..len], 1).contains(&b'{');
-            return self.pen.keep(len.saturating_add(1));
+        let (len, end) = comment_end(rest);
+        self.is_apart = true;
+        self.last = Last::Noted;
+        self.pen.keep(len)?;
+        match end {
+            CommentEnd::Brace => {
+                self.is_nested = after(&rest[..len.min(rest.len())], 1).contains(&b'{');
+                return Ok(());
+            }
+            CommentEnd::Section => self.is_over = self.has_tags || self.has_moves,
+            CommentEnd::Text => {}
         }
-        self.pen.keep(len_to_section(rest))?;
-        self.mend(b"", RepairKind::Comment, b"}")
+        self.pen.close_comment()
     }
 
     // A tag that is mended.
@@ -381,7 +392,7 @@ impl<'t, 'a, A: Allocator> Spelling<'t, 'a, A> {
     {
         if self.has_moves {
             if self.depth == 0 || is_line_start(self.pen.before()) && opens_tag(rest) {
-                self.close()?;
+                self.close(0)?;
                 self.is_over = true;
                 return Ok(());
             }
@@ -396,6 +407,7 @@ impl<'t, 'a, A: Allocator> Spelling<'t, 'a, A> {
         }
         match mend_tag(self.alloc, rest)? {
             Some(tag) => self.tag(tag),
+            None if begins_tag(rest) => self.leave_out_one(rest, RepairKind::Stray),
             None => self.prose(rest),
         }
     }
@@ -409,8 +421,8 @@ impl<'t, 'a, A: Allocator> Spelling<'t, 'a, A> {
         } else {
             len_to_tag(rest)
         };
-        let prose = &rest[..len.max(1).min(rest.len())];
-        self.leave_out(prose, RepairKind::Prose)
+        self.is_apart = true;
+        self.pen.pass_over(len.max(1))
     }
 
     // A word that is no move, no number and no marker in any form.
@@ -534,38 +546,32 @@ impl<'t, 'a, A: Allocator> Spelling<'t, 'a, A> {
         Ok(true)
     }
 
-    // Bytes up to a space or a sign: a sign of a word, a word, or what is around one.
-    fn lump(&mut self, rest: &[u8], lump: &[u8]) -> Result<(), AllocError>
+    // A sign of a word, of more than one byte. Whether it was one.
+    fn word_sign(&mut self, rest: &[u8]) -> Result<bool, AllocError>
+        ensures { self.new ≡ self.old }
+    {
+        let [0xc2..=0xf4, ..] = rest else {
+            return Ok(false);
+        };
+        let sign = sign_at(rest);
+        let Some(now) = sign_of(sign) else {
+            return Ok(false);
+        };
+        self.pen.mend(sign, RepairKind::Sign, now)?;
+        Ok(true)
+    }
+
+    // Bytes up to a space or a sign: a word, or a result with blanks.
+    fn lump(&mut self, rest: &[u8], word: &[u8]) -> Result<(), AllocError>
         ensures { self.new ≡ self.old }
     {
         if let Some(len) = spaced_result(rest) {
             return self.marker(&rest[..len.min(rest.len())]);
         }
-        if let [0xc2..=0xf4, ..] = lump {
-            let sign = sign_at(lump);
-            if let Some(now) = sign_of(sign) {
-                return self.pen.mend(sign, RepairKind::Sign, now);
-            }
-        }
-        if let [
-            b',' | b'&' | b'\'' | b'"' | b'`' | b'^' | b'|' | b'@' | b'\\' | b'%',
-            ..
-        ] = lump
-        {
-            return self.leave_out_one(rest, RepairKind::Stray);
-        }
-        let len = lump
-            .iter()
-            .take_while(|b| !matches!(
-                **b,
-                b',' | b'&' | b'\'' | b'"' | b'`' | b'^' | b'|' | b'\\' | b'%'
-            ))
-            .count();
-        let word = &lump[..len.min(lump.len())];
         if self.letter(word, after(rest, word.len()))? {
             return Ok(());
         }
-        let e = len.saturating_sub(1);
+        let e = word.len().saturating_sub(1);
         let said = en_passant(after(rest, e));
         if is_said(said) && (e == 0 || self.one_move(&word[..e.min(word.len())])?) {
             return self.leave_out(said, RepairKind::Said);
@@ -687,12 +693,17 @@ impl<'t, 'a, A: Allocator> Spelling<'t, 'a, A> {
         match rest {
             [] => Ok(()),
             [0xc2, 0xa0, ..] => self.leave_out_quiet(b"\xc2\xa0", RepairKind::Space),
-            [0xef, 0xbb, 0xbf, ..] => self.keep_apart(3),
+            [0xef, 0xbb, 0xbf, ..] if self.pen.at() == 0 => self.keep_apart(3),
+            [0xef, 0xbb, 0xbf, ..] => self.leave_out_quiet(b"\xef\xbb\xbf", RepairKind::Space),
             [0xe2, 0x80, 0xa6, ..] => self.pen.mend(b"\xe2\x80\xa6", RepairKind::Dots, b"..."),
             [b';', ..] => self.keep_apart(len_to(b'\n', rest).saturating_add(1)),
             [b'%', ..] if matches!(self.pen.before(), [] | [.., b'\n'] | [0xef, 0xbb, 0xbf]) =>
                 self.keep_apart(len_to(b'\n', rest)),
+            [b, ..] if is_stray(*b) || *b == b'@' => self.leave_out_one(rest, RepairKind::Stray),
             [b, ..] => {
+                if self.word_sign(rest)? {
+                    return Ok(());
+                }
                 let len = lump_len(rest);
                 if len > 0 {
                     self.lump(rest, &rest[..len.min(rest.len())])
@@ -713,7 +724,7 @@ impl<'t, 'a, A: Allocator> Spelling<'t, 'a, A> {
             }
             self.step()?;
         }
-        self.close()
+        self.close(0)
     }
 }
 

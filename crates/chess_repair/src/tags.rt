@@ -4,7 +4,7 @@ ghost use Rattle.std.specs.Prelude.{◌≡◌, ◌∷◌, ◌++◌, [], None, So
 ghost use Rattle.std.specs.List.{list_any};
 ghost use Rattle.chess_items.specs.Items.{is_name_byte};
 ghost use Rattle.chess_repair.specs.Runs.{has_first, past_end};
-ghost use Rattle.chess_repair.specs.Tags.{IsTag, after_bracket, after_quote, begins_tag, escaped, escapes, first_name, has_name, is_bracket, is_edge, is_escapable, is_kept, is_quote, name_before_quote, name_in, rough_value, tag_text, unclosed, value_in};
+ghost use Rattle.chess_repair.specs.Tags.{IsTag, after_bracket, after_quote, begins_tag, escaped, escapes, first_name, has_name, is_bracket, is_edge, is_escapable, is_kept, is_quote, name_before_quote, name_in, opens_tag, rough_value, tag_text, unclosed, value_in};
 
 use crate::marks::{after, blanks, is_blank, is_name, last_of, len_to, name_len, without_blanks};
 use crate::runs::{past_blanks, past_name};
@@ -102,12 +102,16 @@ pub fn tag_len(text: &[u8]) -> Option<usize> {
 }
 
 /// Whether a tag may begin with the text.
-pub fn opens_tag(text: &[u8]) -> bool {
+pub fn opens_tag(text: &[u8]) -> bool
+    ensures { result ≡ opens_tag text.now }
+{
     match text {
-        [b'[', inner @ ..] => after(inner, blanks(inner))
-            .first()
-            .is_some_and(|b| is_name(*b)),
-        _ => false,
+        [b, inner @ ..] => *b == b'['
+            && match past_blanks(inner) {
+                [c, ..] => is_name(*c),
+                [] => false,
+            },
+        [] => false,
     }
 }
 

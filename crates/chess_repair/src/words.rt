@@ -55,9 +55,9 @@ pub fn is_said(word: &[u8]) -> bool
         || is(word, b"#")
 }
 
-// A draw in another form.
+/// A draw in another form.
 #[tactic(auto, unfolding(crate::specs::Words::says_draw))]
-fn is_draw(word: &[u8]) -> bool
+pub fn is_draw(word: &[u8]) -> bool
     ensures { result ≡ says_draw word.now }
 {
     is(word, b"1/2")
@@ -69,17 +69,17 @@ fn is_draw(word: &[u8]) -> bool
         || is(word, b"0.5 - 0.5")
 }
 
-// White's win in another form.
+/// White's win in another form.
 #[tactic(auto, unfolding(crate::specs::Words::says_win))]
-fn is_win(word: &[u8]) -> bool
+pub fn is_win(word: &[u8]) -> bool
     ensures { result ≡ says_win word.now }
 {
     is(word, b"1:0") || is(word, b"1-O") || is(word, b"1 - 0") || is(word, b"1\xe2\x80\x930")
 }
 
-// Black's.
+/// Black's.
 #[tactic(auto, unfolding(crate::specs::Words::says_loss))]
-fn is_loss(word: &[u8]) -> bool
+pub fn is_loss(word: &[u8]) -> bool
     ensures { result ≡ says_loss word.now }
 {
     is(word, b"0:1") || is(word, b"O-1") || is(word, b"0 - 1") || is(word, b"0\xe2\x80\x931")
