@@ -170,6 +170,15 @@ class Arbiter(unittest.TestCase):
         self.judge('[SetUp "0"]' + start(usual.replace("KBNR w", "KBN1 w")) + "*", fen_changed="false", start_fen="")
         # The number of the first move is none of it: many files have 0.
         self.judge(start(usual.replace("0 1", "0 0")) + "*", fen_changed="false", start_fen="")
+        # Letters in another order, spaces that repeat, and no counters: the same rights and target are given, and the same position is read.
+        castles = "r3k2r/8/8/8/8/8/8/R3K2R w KQkq - 0 1"
+        for given in ("r3k2r/8/8/8/8/8/8/R3K2R w QKqk - 0 1", "r3k2r/8/8/8/8/8/8/R3K2R  w  KQkq  -  0  1", f" {castles} ", castles[:-4]):
+            self.judge(start(given) + "1. Kd1 *", fen_changed="false", start_fen=castles)
+            self.assertEqual(rows(start(given) + "1. Kd1 *", "--findings"), [])
+        self.judge(start(castles) + "*", fen_changed="false")
+        self.judge(start(castles.replace("R w", "1 w")) + "*", fen_changed="true", start_fen="r3k2r/8/8/8/8/8/8/R3K3 w Qkq - 0 1")
+        double_step = "rnbqkbnr/pppppppp/8/8/4P3/8/PPPP1PPP/RNBQKBNR b KQkq e3 0 1"
+        self.judge(start(double_step) + "*", fen_changed="false", start_fen=double_step)
         self.judge("*", fen_changed="false")
 
     def test_findings(self):

@@ -8,6 +8,7 @@
 --   is_another        a Result tag says another result than the marker
 --   is_unmarked       a game has no marker
 --   fen_tag           the FEN that the tags give, where they don't say that the game begins in the usual position
+--   gives_start       the fields of a FEN give the castling rights and the target that a position has, as FEN is read: rights by letters in any order
 --   is_changed        it gives other castling rights, or another target, than the position has
 --   has_finding       moves follow after the game was over; or its marker disagrees with the board, leaves it open or is a win of a king alone; or it is a
 --                     game of another variant; or it has no marker, or another than its Result tag; or its FEN is changed
@@ -18,14 +19,17 @@
 use Rattle.std.specs.Prelude.{ℕ, zero, suc, nat_eq, nat_lt, Bool, false, not, ◌||◌, ◌&&◌, bytes_eq, if◌then◌else◌, is_some, List, [], ◌∷◌, ◌++◌, length, codes, Option, Some, None, option_map}
 use Rattle.chess_types.specs.declared.board.man.Colour.{Colour}
 use Rattle.chess_types.specs.declared.board.man.Colour.TheVariants.{White, Black}
-use Rattle.std.specs.List.{ends_with, starts_with}
+use Rattle.std.specs.List.{ends_with}
 use Rattle.std.specs.Str.{str_eq_ignore_ascii_case}
 use Rattle.chess_types.specs.declared.board.outcome.Status.{Status}
 use Rattle.chess_types.specs.board.Mating.{is_bare}
 use Rattle.chess_types.specs.board.Position.{PositionParts}
 use Rattle.chess_types.specs.board.Lines.{Line, last}
+use Rattle.chess_types.specs.board.Repetition.{same_rights}
 use Rattle.chess_types.specs.board.Outcome.{status, status_text, winner}
-use Rattle.chess_fen.specs.Writing.{four_fields, written}
+use Rattle.byte_streams.specs.Words.{words}
+use Rattle.chess_fen.specs.Reading.{rights_of}
+use Rattle.chess_fen.specs.Writing.{target_text, written}
 use Rattle.chess_items.specs.declared.fault.PgnFault.{PgnFault}
 use Rattle.chess_items.specs.Faults.{name_of}
 use Rattle.chess_items.specs.declared.outcome.Outcome.{Outcome}
@@ -108,11 +112,15 @@ is_unmarked bytes marker = is_open marker && not (ends_with nat_eq bytes (codes 
 abbrev pub fen_tag : Heading → Option (List ℕ)
 fen_tag heading = if is_usual heading.set_up then None else heading.fen
 
--- it doesn't begin with the four fields of the position (PGN 16.1.3): it gives castling rights or a target that no position with these men has; no tag says
--- nothing
+-- the third field of a FEN gives the castling rights that the position has (PGN 16.1.3.3), and the fourth its target (PGN 16.1.3.4); fewer fields give neither
+abbrev pub gives_start : List (List ℕ) → PositionParts → Bool
+gives_start (placement ∷ side ∷ castling ∷ target ∷ counters) p = same_rights (rights_of castling) p.rights && bytes_eq target (target_text p.target)
+gives_start _ p = false
+
+-- its fields, which spaces separate as FEN is read, give castling rights or a target that the position doesn't have; no tag says nothing
 abbrev pub is_changed : Option (List ℕ) → PositionParts → Bool
 is_changed None p = false
-is_changed (Some given) p = not (starts_with nat_eq given (four_fields p p.target))
+is_changed (Some given) p = not (gives_start (words (codes " ") given) p)
 
 -- moves follow after the game was over; or its marker disagrees with the board, leaves open what the board ends, or is a win of a king alone; or it is a
 -- game of another variant, whose rules these aren't; or it has no marker, or another than its Result tag; or its FEN is changed

@@ -1,20 +1,24 @@
 //! What is wrong with a game.
 
-ghost use Rattle.std.specs.Prelude.{◌≡◌, option_map};
+ghost use Rattle.std.specs.Prelude.{◌≡◌, bytes_eq, codes, option_map};
+ghost use Rattle.byte_streams.specs.Words.{words};
+ghost use Rattle.chess_fen.specs.Reading.{has_letter, rights_of};
+ghost use Rattle.chess_fen.specs.Writing.{target_text};
 ghost use Rattle.chess_pgn.specs.Games.{tag_value};
 ghost use Rattle.chess_pgn.specs.Tags.{is_usual};
 ghost use Rattle.chess_pgn.specs.steps.GameCode.{tags_of};
 ghost use Rattle.chess_report.specs.Findings.{is_open};
 ghost use Rattle.chess_types.specs.board.Mating.{is_bare};
-ghost use Rattle.arbiter.specs.Rows.{fen_tag, is_another, is_changed, is_chess, is_other_variant, is_unmarked, wins_bare};
+ghost use Rattle.chess_types.specs.board.Repetition.{same_bool, same_rights};
+ghost use Rattle.arbiter.specs.Rows.{fen_tag, gives_start, is_another, is_changed, is_chess, is_other_variant, is_unmarked, wins_bare};
 ghost use Rattle.arbiter.specs.steps.Reports.{is_finding, is_unended};
 
+use byte_streams::split_word;
 use chess_collection::Heading;
-use chess_fen::write_fields;
 use chess_items::is;
 use chess_pgn::{Game, Outcome};
 use chess_report::Report;
-use chess_types::{Colour, Position, Status};
+use chess_types::{Colour, Position, Rights, Setup, Square, Status};
 use std::alloc::Allocator;
 
 // Whether a Variant tag names chess, or nothing.
@@ -82,15 +86,59 @@ pub fn is_unmarked(bytes: &[u8], marker: Outcome) -> bool
     marker == Outcome::Unfinished && !bytes.ends_with(b"*")
 }
 
+// Whether a letter stands in the field if the right is held, and only then.
+fn is_written(field: &[u8], letter: u8, held: bool) -> bool
+    ensures { result ≡ same_bool (has_letter field.now letter) held }
+{
+    field.contains(&letter) == held
+}
+
+// Whether the letters of a FEN's third field are those of the rights (PGN 16.1.3.3).
+fn gives_rights(field: &[u8], rights: Rights) -> bool
+    ensures { result ≡ same_rights (rights_of field.now) rights }
+{
+    is_written(field, b'K', rights.white_king)
+        && is_written(field, b'Q', rights.white_queen)
+        && is_written(field, b'k', rights.black_king)
+        && is_written(field, b'q', rights.black_queen)
+}
+
+// Whether a FEN's fourth field is the target's square, or a hyphen if there is no target (PGN 16.1.3.4).
+#[tactic(auto, unfolding(chess_fen::specs::Writing::target_text))]
+fn gives_target(field: &[u8], target: Option<Square>) -> bool
+    ensures { result ≡ bytes_eq field.now (target_text target) }
+{
+    match target {
+        Some(square) => is(field, square.text().as_str().as_bytes()),
+        None => is(field, b"-"),
+    }
+}
+
+// Whether a FEN gives the castling rights and the target that the position has.
+fn gives_start(fen: &[u8], start: &Setup) -> bool
+    ensures { result ≡ gives_start (words (codes " ") fen.now) start.now }
+{
+    let Some((_, rest)) = split_word(fen, b" ") else {
+        return false;
+    };
+    let Some((_, rest)) = split_word(rest, b" ") else {
+        return false;
+    };
+    let Some((castling, rest)) = split_word(rest, b" ") else {
+        return false;
+    };
+    let Some((target, _)) = split_word(rest, b" ") else {
+        return false;
+    };
+    gives_rights(castling, start.rights) && gives_target(target, start.target)
+}
+
 /// Whether the FEN of a tag gives other castling rights, or another target, than the position has.
 pub fn is_changed(given: Option<&[u8]>, start: &Position) -> bool
     ensures { result ≡ is_changed (option_map (λ v. v.now) given.entry) start.now }
 {
     match given {
-        Some(given) => {
-            let fields = write_fields(start.setup(), start.setup().target);
-            !given.starts_with(fields.as_str().as_bytes())
-        }
+        Some(given) => !gives_start(given, start.setup()),
         None => false,
     }
 }
