@@ -1,5 +1,5 @@
 -- Bytes that come and are at hand, read after read.
-use Rattle.std.proofs.Common.{◌≡◌, ◌⊎◌, inl, inr, ℕ, Bool, true, false, if◌then◌else◌, List, [], ◌∷◌, ◌++◌, length, refl, sym, ap, subst, ◌∙◌, arith, append_assoc, append-nil, length-append}
+use Rattle.std.proofs.Common.{◌≡◌, ◌⊎◌, inl, inr, ℕ, ◌+◌, Bool, true, false, if◌then◌else◌, List, [], ◌∷◌, ◌++◌, length, refl, sym, ap, subst, ◌∙◌, arith, append_assoc, append-nil, length-append}
 use Rattle.std.specs.Prelude.{◌≤◌, ◌*◌, Result, Ok, Err, IfErr, IsErrAnd}
 use Rattle.std.specs.List.{AllByRecursion}
 use Rattle.byte_streams.specs.Calls.{Calls, Carries, joined}
@@ -10,7 +10,7 @@ use Rattle.chess_items.specs.steps.Texts.{RefillBreaks}
 use Rattle.chess_items.specs.declared.at_hand.Fault.TheVariants.{Memory, Read}
 use Rattle.chess_command_line.specs.declared.collection.Failure.{Failure}
 use Rattle.chess_command_line.specs.declared.collection.Failure.TheVariants as by
-use Rattle.chess_collection.specs.Windows.{Comes, NoMore, Window}
+use Rattle.chess_collection.specs.Windows.{Comes, ComesSome, NoMore, Window}
 
 -- what holds of a fault holds of it as it is handed on
 pub handed_on : {A E : Type 0} (P : E → Type 0) (told : Result A E) (fault : E) → IsErrAnd told (λ f. f ≡ fault) → P fault → IfErr told P
@@ -53,26 +53,25 @@ module _ {R : Type 0} (gives : R → List ℕ → R → Type 0) (failed : R → 
     still = λ e. (let x = f.still e in let y = s.still x.1 in (ap (λ (z : List ℕ). z ++ s.bytes) x.0 ∙ y.0, y.1));
   }
 
-  pub comes_broken : (a b : Window R) (c : R) (failure : Failure) → Comes gives failed a b → NoMore gives failed b.source b.reads c failure → NoMore gives failed a.source a.reads c failure
-  unfolding then_comes
-  comes_broken a b c by.Read f (mid, bytes, came, well, inl fails) = (mid, f.bytes ++ bytes, then_comes a.source b.source mid f.bytes bytes f.came came, well ∙ f.well, inl fails)
-  comes_broken a b c by.Read f (mid, bytes, came, well, inr most) = (
-    mid,
-    f.bytes ++ bytes,
-    then_comes a.source b.source mid f.bytes bytes f.came came,
-    well ∙ f.well,
-    inr (most.0, (let n = length-append f.came.pieces came.pieces in let x = f.counted in let y = most.1 in omega (arith, n, x, y))),
-  )
-  comes_broken a b c by.Write f n = absurd n
-  comes_broken a b c by.Memory f (bytes, came, well) = (f.bytes ++ bytes, then_comes a.source b.source c f.bytes bytes f.came came, well ∙ f.well)
+  pub comes_broken : (P Q : List ℕ → Type 0) (a b c : Window R) (failure : Failure) → Comes gives failed a b → ((bytes : List ℕ) → P bytes → Q bytes) → NoMore gives failed P b c failure → NoMore gives failed Q a c failure
+  comes_broken P Q a b c by.Read f so (last, some, kept, fails) = (last, record { comes = comes_on a b last f some.comes; goes_on = some.goes_on; so = so last.bytes some.so }, kept, fails)
+  comes_broken P Q a b c by.Write f so n = absurd n
+  comes_broken P Q a b c by.Memory f so (last, some, loses) = (last, record { comes = comes_on a b last f some.comes; goes_on = some.goes_on; so = so last.bytes some.so }, loses)
 
-  came_all : (s t : AtHand R) (ps : List (List ℕ)) → Calls (λ s bytes t. Came gives failed s bytes t) s ps t → (bytes : List ℕ) × Carries gives s.source bytes t.source × (failed t.source ≡ failed s.source)
-  came_all s t [] c = ([], subst (λ (x : AtHand R). Carries gives s.source [] x.source) c (Carries-none gives s.source), ap (λ (x : AtHand R). failed x.source) (sym c))
+  came_all : (s t : AtHand R) (ps : List (List ℕ)) → Calls (λ s bytes t. Came gives failed s bytes t) s ps t
+      → (bytes : List ℕ) × Carries gives s.source bytes t.source × (failed t.source ≡ failed s.source) × (length bytes + 65536 * t.reads ≤ 65536 * s.reads)
+  came_all s t [] c = (
+    [],
+    subst (λ (x : AtHand R). Carries gives s.source [] x.source) c (Carries-none gives s.source),
+    ap (λ (x : AtHand R). failed x.source) (sym c),
+    (let n = ap (λ (x : AtHand R). x.reads) c in omega (arith, n)),
+  )
   came_all s t (p ∷ ps) c =
       let more = came_all c.0 t ps c.2 in (
         p ++ more.0,
         Carries-append gives s.source c.0.source t.source p more.0 (record { pieces = c.1.pieces; calls = c.1.calls; whole = c.1.whole }) more.1,
         more.2 ∙ c.1.well,
+        (let n = length-append p more.0 in let m = ap length c.1.whole in let k = joined_sized c.1.pieces c.1.sized in let x = c.1.counted in let y = more.3 in omega (arith, n, m, k, x, y)),
       )
 
   module _ (old new : AtHand R) (w : Window R) (from : w.source ≡ old.source) (may : w.reads ≡ old.reads) where
@@ -108,25 +107,61 @@ module _ {R : Type 0} (gives : R → List ℕ → R → Type 0) (failed : R → 
       still = λ e. (refl, is);
     }
 
+    -- no more than a piece came
+    pub few_come : (ended : R → Type 0) (now : List ℕ) → HasRefilled gives ended failed old new true → now ≡ w.bytes ++ unread new → length now ≤ length w.bytes + 65536
+    few_come ended now h bytes =
+        (let n = ap length bytes in let l = length-append w.bytes (unread new) in let m = joined_sized h.pieces h.sized in let k = ap length h.after.0 in let one = h.after.1 in omega (arith, n, l, m, k, one))
+
+    none_came : w.has_ended ≡ false → ComesSome gives failed (λ bytes. length bytes ≤ length w.bytes) w w
+    none_came on = record { comes = comes_none w; goes_on = on; so = omega arith }
+
     -- a read failed, or there may be no more
-    pub read_breaks : RefillBreaks (λ s bytes t. Came gives failed s bytes t) (λ s t. Breaks gives failed s t) (λ s. s.has_ended ≡ true) (λ s. s.reads) old new Read → NoMore gives failed w.source w.reads new.source by.Read
-    read_breaks b =
+    pub read_breaks : (v : Window R) → w.has_ended ≡ false → v.source ≡ new.source → v.bytes ≡ w.bytes
+        → RefillBreaks (λ s bytes t. Came gives failed s bytes t) (λ s t. Breaks gives failed s t) (λ s. s.has_ended ≡ true) (λ s. s.reads) old new Read
+        → NoMore gives failed (λ bytes. length bytes ≤ length w.bytes) w v by.Read
+    read_breaks v on to kept b =
         let came = b.2 in
-        (b.1.source, [], record { pieces = came.pieces; calls = subst (λ (x : R). Calls gives x came.pieces b.1.source) (sym from) came.calls; whole = came.whole }, came.well ∙ ap failed (sym from), how b.1 came b.3.0)
-      where
-        how : (mid : AtHand R) (came : Came gives failed old [] mid) → (gives mid.source [] new.source × (failed new.source ≡ true)) ⊎ ((new.source ≡ mid.source) × (mid.reads ≡ 0)) → (gives mid.source [] new.source × (failed new.source ≡ true)) ⊎ ((new.source ≡ mid.source) × (length came.pieces ≡ w.reads))
-        how mid came (inl fails) = inl fails
-        how mid came (inr most) = inr (most.0, (let n = came.counted in let z = most.1 in omega (arith, n, z, may)))
+        let last : Window R = record { source = b.1.source; bytes = w.bytes; has_ended = w.has_ended; seen = w.seen; reads = b.1.reads } in (
+          last,
+          record {
+            comes = record {
+              bytes = [];
+              came = record { pieces = came.pieces; calls = subst (λ (x : R). Calls gives x came.pieces b.1.source) (sym from) came.calls; whole = came.whole };
+              well = came.well ∙ ap failed (sym from);
+              whole = sym (append-nil w.bytes);
+              counted = came.counted ∙ sym may;
+              sized = omega arith;
+              still = λ e. (refl, e);
+            };
+            goes_on = on;
+            so = omega arith;
+          },
+          kept,
+          subst (λ (x : R). (gives b.1.source [] x × (failed x ≡ true)) ⊎ ((x ≡ b.1.source) × (b.1.reads ≡ 0))) (sym to) b.3.0,
+        )
 
     -- there was no memory
-    pub memory_breaks : RefillBreaks (λ s bytes t. Came gives failed s bytes t) (λ s t. Breaks gives failed s t) (λ s. s.has_ended ≡ true) (λ s. s.reads) old new Memory → NoMore gives failed w.source w.reads new.source by.Memory
-    memory_breaks b =
-        let all = came_all old new b.1 b.2 in (all.0, subst (λ (x : R). Carries gives x all.0 new.source) (sym from) all.1, all.2 ∙ ap failed (sym from))
+    pub memory_breaks : (v : Window R) → w.has_ended ≡ false → v.source ≡ new.source → RefillBreaks (λ s bytes t. Came gives failed s bytes t) (λ s t. Breaks gives failed s t) (λ s. s.has_ended ≡ true) (λ s. s.reads) old new Memory
+        → NoMore gives failed (λ bytes. length bytes ≤ length w.bytes) w v by.Memory
+    unfolding none_came
+    memory_breaks v on to b =
+        let all = came_all old new b.1 b.2 in
+        (w, none_came on, (all.0, subst (λ (x : R). Carries gives w.source all.0 x) (sym to) (subst (λ (x : R). Carries gives x all.0 new.source) (sym from) all.1), few b.3, ap failed to ∙ all.2 ∙ ap failed (sym from)))
+      where
+        few : (new.reads ≡ old.reads) ⊎ (new.reads + 1 ≡ old.reads) → length (came_all old new b.1 b.2).0 ≤ 65536
+        few (inl none) = (let n = (came_all old new b.1 b.2).3 in omega (arith, n, none))
+        few (inr one) = (let n = (came_all old new b.1 b.2).3 in omega (arith, n, one))
 
     -- there was none for what came
-    pub piece_lost : (ended : R → Type 0) → HasRefilled gives ended failed old new true → NoMore gives failed w.source w.reads new.source by.Memory
-    piece_lost ended h = (
-      unread new,
-      record { pieces = h.pieces; calls = subst (λ (x : R). Calls gives x h.pieces new.source) (sym from) h.calls; whole = sym h.after.0 },
-      h.well ∙ ap failed (sym from),
+    pub piece_lost : (ended : R → Type 0) (v : Window R) → w.has_ended ≡ false → v.source ≡ new.source → HasRefilled gives ended failed old new true → NoMore gives failed (λ bytes. length bytes ≤ length w.bytes) w v by.Memory
+    unfolding none_came
+    piece_lost ended v on to h = (
+      w,
+      none_came on,
+      (
+        unread new,
+        record { pieces = h.pieces; calls = subst (λ (x : R). Calls gives x h.pieces v.source) (sym from) (subst (λ (x : R). Calls gives old.source h.pieces x) (sym to) h.calls); whole = sym h.after.0 },
+        (let m = joined_sized h.pieces h.sized in let k = ap length h.after.0 in let one = h.after.1 in omega (arith, m, k, one)),
+        ap failed to ∙ h.well ∙ ap failed (sym from),
+      ),
     )

@@ -3,15 +3,21 @@
 --   bad_of       it is a game that can't be read, and counts; passed_of, how many of its bytes are passed over
 --   Tiles        stretches of some bytes, one after another, without a gap, each handled by its number and the number of bytes before it, as the bytes that are
 --                looked at where it begins say; and the bytes after them
+--   TilesLast    stretches of bytes after which none came, one after another, each handled as if the source had ended there, and each ends before the last byte
+--   IsLeft       what is left of those: white, or a stretch of all of them, which bytes to come might have made longer
 --   written_of   what is written of stretches
 --   bad_in       how many games can't be read, and count; passed_in, how many bytes are passed over
---   Reaches      bytes came from a source of which `reads` reads may be made, and stretches of them go up to what is at hand, whatever comes next
+--   Reaches      bytes came from a source of which `reads` reads may be made, and stretches of them go up to what is at hand, whatever comes next; few bytes
+--                are at hand
+--   ReachesOn    stretches are reached; and where a read failed then, or there may be no more, so are stretches of what is at hand (`TilesLast`)
 --   HasTotals    how many stretches there are, and bytes of them and after them, and bytes that are passed over; and how many games can't be read, and count
---   WentOver     stretches are reached, and a text and what is written of them are carried to a sink, whole and no more; no call failed
---   GoesOver     how going over a collection ends: it has ended, and nothing but what the handler calls white comes after the stretches; or a read failed, or there may be no
---                more, or there were as many stretches as may be, or there was no memory, and what is written of all before is written; or there was none to
---                begin with; or a write failed, and a prefix of it is written
-use Rattle.std.specs.Prelude.{◌≡◌, ◌⊎◌, ℕ, ◌+◌, suc, Bool, true, List, [], ◌∷◌, ◌++◌, length, Result, Ok, Err}
+--   IsCutShort   nothing is lost of what was read: a read failed, or there may be no more, and what is left of all that came is no stretch that ends before its
+--                last byte (`IsLeft`); or there were as many stretches as may be
+--   IsWritten    a text is carried to a sink, whole and no more, and no call failed
+--   GoesOver     how going over a collection ends: it has ended, and nothing but what the handler calls white comes after the stretches; or it is cut short, and
+--                what is written of all stretches is written; or there was no memory, and what is written of all before is written; or there was none to begin
+--                with; or a write failed, and a prefix of it is written
+use Rattle.std.specs.Prelude.{◌≡◌, ◌⊎◌, ◌<◌, ℕ, ◌+◌, suc, Bool, true, List, [], ◌∷◌, ◌++◌, length, Result, Ok, Err}
 use Rattle.byte_streams.specs.Calls.{Carries}
 use Rattle.chess_loop.specs.RunEnds.{Broken}
 use Rattle.chess_command_line.specs.declared.collection.Failure.{Failure}
@@ -19,7 +25,7 @@ use Rattle.chess_command_line.specs.declared.collection.Failure.TheVariants as b
 use Rattle.chess_collection.specs.declared.going.Totals.{Totals}
 use Rattle.chess_collection.specs.declared.handler.Fate.{Fate}
 use Rattle.chess_collection.specs.declared.handler.Fate.TheVariants.{Read, Lost}
-use Rattle.chess_collection.specs.Windows.{IsLookedAt, NoMore, Window}
+use Rattle.chess_collection.specs.Windows.{AreFew, Fails, IsLookedAt, Loses, Window}
 
 pub record Stretch : Type 0 where
   pub bytes : List ℕ
@@ -31,10 +37,20 @@ pub record Stretch : Type 0 where
 abbrev pub Handles : Type 1
 Handles = ℕ → ℕ → List ℕ → ℕ → Fate → List ℕ → Type 0
 
-abbrev pub Tiles : Handles → ℕ → ℕ → List ℕ → List Stretch → List ℕ → Type 0
-Tiles handles number offset left [] rest = left ≡ rest
-Tiles handles number offset left (s ∷ ss) rest =
-    (window after : List ℕ) × IsLookedAt window left × handles number offset window (length s.bytes) s.fate s.text × (left ≡ s.bytes ++ after) × Tiles handles (suc number) (offset + length s.bytes) after ss rest
+-- of a whole text
+abbrev pub Tiles : Handles → (List ℕ → Type 0) → List ℕ → ℕ → ℕ → List ℕ → List Stretch → List ℕ → Type 0
+Tiles handles white whole number offset left [] rest = left ≡ rest
+Tiles handles white whole number offset left (s ∷ ss) rest =
+    (window after : List ℕ) × IsLookedAt white whole window left × handles number offset window (length s.bytes) s.fate s.text × (left ≡ s.bytes ++ after)
+    × Tiles handles white whole (suc number) (offset + length s.bytes) after ss rest
+
+abbrev pub TilesLast : Handles → ℕ → ℕ → List ℕ → List Stretch → List ℕ → Type 0
+TilesLast handles number offset left [] rest = left ≡ rest
+TilesLast handles number offset left (s ∷ ss) rest =
+    handles number offset left (length s.bytes) s.fate s.text × (after : List ℕ) × (left ≡ s.bytes ++ after) × (0 < length after) × TilesLast handles (suc number) (offset + length s.bytes) after ss rest
+
+abbrev pub IsLeft : Handles → (List ℕ → Type 0) → ℕ → ℕ → List ℕ → Type 0
+IsLeft handles white number offset rest = white rest ⊎ ((fate : Fate) × (text : List ℕ) × handles number offset rest (length rest) fate text)
 
 abbrev pub written_of : List Stretch → List ℕ
 written_of [] = []
@@ -68,34 +84,54 @@ pub record HasTotals (ss : List Stretch) (rest text : List ℕ) (totals : Totals
   pub passed : totals.passed ≡ passed_in ss
   pub bad : totals.bad ≡ bad_in ss
 
-module _ {R : Type 0} (gives : R → List ℕ → R → Type 0) (failed : R → Bool) (handles : Handles) (ended : R → Type 0) (reads : ℕ) where
+abbrev pub IsWritten : {W : Type 0} → (W → List ℕ → W → Type 0) → (W → Bool) → W → List ℕ → W → Type 0
+IsWritten takes failed old text new = Carries takes old text new × (failed new ≡ failed old)
+
+module _ {R : Type 0} (gives : R → List ℕ → R → Type 0) (failed : R → Bool) (handles : Handles) (white : List ℕ → Type 0) (ended : R → Type 0) (reads : ℕ) where
   pub record Reaches (source : R) (ss : List Stretch) (text : List ℕ) (now : Window R) : Type 0 where
     pub came : Carries gives source text now.source
     pub well_read : failed now.source ≡ failed source
     pub counted : now.reads + length came.pieces ≡ reads
     pub sound : now.has_ended ≡ true → ended now.source
-    pub tiles : (more : List ℕ) → (now.has_ended ≡ true → more ≡ []) → Tiles handles 1 0 (text ++ more) ss (now.bytes ++ more)
+    pub few : AreFew white text now.bytes
+    pub tiles : (more : List ℕ) → (now.has_ended ≡ true → more ≡ []) → Tiles handles white (text ++ more) 1 0 (text ++ more) ss (now.bytes ++ more)
 
-  module _ {W : Type 0} (white : List ℕ → Type 0) (takes : W → List ℕ → W → Type 0) (write_failed : W → Bool) (head : List ℕ) where
-    pub record WentOver (source : R) (ss : List Stretch) (now : Window R) (old new : W) : Type 0 where
-      pub text : List ℕ
-      pub reaches : Reaches source ss text now
-      pub writes : Carries takes old (head ++ written_of ss) new
-      pub well_written : write_failed new ≡ write_failed old
+  -- the first stretches, up to what was at hand when reading ended, and those after them
+  pub record ReachesOn (source : R) (ss : List Stretch) (rest : List ℕ) (new : R) : Type 0 where
+    pub first : List Stretch
+    pub text : List ℕ
+    pub last : Window R
+    pub reaches : Reaches source first text last
+    pub late : List Stretch
+    pub all : ss ≡ first ++ late
+    pub offset : ℕ
+    pub placed : offset + length last.bytes ≡ length text
+    pub tiles : TilesLast handles (suc (length first)) offset last.bytes late rest
+    pub stops : ((late ≡ []) × Loses gives failed last.source new) ⊎ Fails gives failed last new
 
+  pub record IsCutShort (ss : List Stretch) (rest text : List ℕ) (last : Window R) (new : R) : Type 0 where
+    pub fails : Fails gives failed last new
+    pub offset : ℕ
+    pub placed : offset + length rest ≡ length text
+    pub left : IsLeft handles white (suc (length ss)) offset rest
+
+  module _ {W : Type 0} (takes : W → List ℕ → W → Type 0) (write_failed : W → Bool) (head : List ℕ) where
     -- to the source's end
     pub record GoesOverAll (source : R) (new : Window R) (old w : W) (totals : Totals) : Type 0 where
       pub ss : List Stretch
-      pub went : WentOver source ss new old w
+      pub text : List ℕ
+      pub reaches : Reaches source ss text new
+      pub writes : IsWritten takes write_failed old (head ++ written_of ss) w
       pub ends : (new.has_ended ≡ true) × ended new.source
       pub rest : white new.bytes
-      pub totals_are : HasTotals ss new.bytes went.text totals
+      pub totals_are : HasTotals ss new.bytes text totals
 
     abbrev pub GoesOver : R → Window R → W → W → Result Totals Failure → Type 0
     GoesOver source new old w (Ok totals) = GoesOverAll source new old w totals
     GoesOver source new old w (Err by.Read) =
-        (ss : List Stretch) × (last : Window R) × WentOver source ss last old w
-        × (NoMore gives failed last.source last.reads new.source by.Read ⊎ ((length ss ≡ most_handled) × (new ≡ last)))
+        (ss : List Stretch) × (rest : List ℕ) × (some : ReachesOn source ss rest new.source) × IsWritten takes write_failed old (head ++ written_of ss) w
+        × (IsCutShort ss rest some.text some.last new.source ⊎ (length ss ≡ most_handled))
     GoesOver source new old w (Err by.Write) =
-        (ss : List Stretch) × (last : Window R) × (text : List ℕ) × Reaches source ss text last × Broken takes write_failed old (head ++ written_of ss) w
-    GoesOver source new old w (Err by.Memory) = ((ss : List Stretch) × (last : Window R) × WentOver source ss last old w) ⊎ ((new.source ≡ source) × (w ≡ old))
+        (ss : List Stretch) × (rest : List ℕ) × ReachesOn source ss rest new.source × Broken takes write_failed old (head ++ written_of ss) w
+    GoesOver source new old w (Err by.Memory) =
+        ((ss : List Stretch) × (rest : List ℕ) × ReachesOn source ss rest new.source × IsWritten takes write_failed old (head ++ written_of ss) w) ⊎ ((new.source ≡ source) × (w ≡ old))

@@ -5,8 +5,8 @@ ghost use Rattle.chess_loop.specs.steps.Sending.{Flows, Sends};
 ghost use Rattle.chess_command_line.specs.declared.collection.Failure.{Failure};
 ghost use Rattle.chess_command_line.specs.declared.collection.Failure.TheVariants as by;
 ghost use Rattle.chess_collection.specs.Handling.{GoesOver};
-ghost use Rattle.chess_collection.specs.Windows.{Comes, IsWide, KnowsItsEnd};
-ghost use Rattle.chess_collection.specs.steps.Going.{BreaksOff, Fills, has_broken};
+ghost use Rattle.chess_collection.specs.Windows.{Comes, IsWide, KnowsItsEnd, StayFew};
+ghost use Rattle.chess_collection.specs.steps.Going.{BreaksOff, Fills, Finishes, has_broken};
 
 use crate::handler::{Fate, GameHandler, Handled};
 use crate::window::Window;
@@ -57,10 +57,11 @@ fn next_handled<'a, R: Source, A: Allocator, H: GameHandler>(
     ensures came { IfOk result (λ _. Comes R.gives R.failed window.old window.new) }
     ensures sound { IfOk result (λ _. KnowsItsEnd R.ended window.new) }
     ensures wide { IfOk result (λ _. IsWide window.new) }
+    ensures few { IfOk result (λ _. StayFew H.white window.old.bytes window.new.bytes) }
     ensures fits { IfOk result (λ found. IfSome found (λ h. h.used ≤ length window.new.bytes)) }
     ensures handled { IfOk result (λ found. IfSome found (λ h. H.handles handler.now place.number place.offset window.new.bytes h.used h.fate h.text.items)) }
     ensures end { IfOk result (λ found. found ≡ None → (window.new.has_ended ≡ true) × H.white window.new.bytes) }
-    ensures broken { IfErr result (λ failure. BreaksOff R.gives R.failed window.old window.new failure) }
+    ensures broken { IfErr result (λ failure. BreaksOff R.gives R.failed R.ended H.white window.old window.new failure) }
 {
     window.widen()?;
     loop {
@@ -150,7 +151,48 @@ fn let_go<'a, R: Source, W: Sink, A: Allocator>(
     page.flush(writer)
 }
 
-// Puts what is written of the stretches on the page, and writes it when the page is full and before more is read; it ends where the source has ended.
+// Goes over what is at hand after a failed read, as if the source had ended there, after `before` stretches of `offset` bytes: up to a stretch that reaches the
+// last byte, since bytes that didn't come might have made it longer.
+fn finish<'a, R: Source, W: Sink, A: Allocator, H: GameHandler>(
+    handler: &H,
+    window: &mut Window<'a, R, A>,
+    page: &mut OutputBuffer<Global>,
+    writer: &mut W,
+    before: u64,
+    offset: u64,
+) -> Failure
+    requires few { before < 144115188075855872 }
+    requires fits { offset + length window.old.bytes < 18446744073709551616 }
+    ensures finishes { Finishes (λ n o b u is t. H.handles handler.now n o b u is t) W.takes W.failed H.white before offset window.old.bytes page.old writer.old page.new writer.new result }
+    ensures source { window.new.source ≡ window.old.source }
+{
+    let mut offset = offset;
+    for done in before..GAMES {
+        let place = Place {
+            number: done + 1,
+            offset,
+        };
+        let handled = match handler.handle(place, window.unread()) {
+            Err(failure) => return failure,
+            Ok(None) => return Failure::Read,
+            Ok(Some(handled)) => handled,
+        };
+        let used = handled.used;
+        if used >= window.unread().len() {
+            return Failure::Read;
+        }
+        match put_text(page, handled.text.as_slice(), writer) {
+            Ok(()) => {}
+            Err(_) => return Failure::Write,
+        }
+        window.use_first(used);
+        offset += used as u64;
+    }
+    Failure::Read
+}
+
+// Puts what is written of the stretches on the page, and writes it when the page is full and before more is read; it ends where the source has ended, or where
+// nothing is left of the bytes before a failed read.
 fn fill<'a, R: Source, W: Sink, A: Allocator, H: GameHandler>(
     handler: &H,
     window: &mut Window<'a, R, A>,
@@ -161,7 +203,7 @@ fn fill<'a, R: Source, W: Sink, A: Allocator, H: GameHandler>(
     requires sound { KnowsItsEnd R.ended window.old }
     requires fresh { window.old.bytes ≡ [] }
     requires reads { window.old.reads ≤ 1099511627776 }
-    ensures { Fills R.gives R.failed (λ n o b u is t. H.handles handler.now n o b u is t) W.takes W.failed R.ended H.white window.old page.old writer.old window.new page.new writer.new result }
+    ensures { Fills (λ n o b u is t. H.handles handler.now n o b u is t) W.takes W.failed R.gives R.failed R.ended H.white window.old page.old writer.old window.new page.new writer.new result }
 {
     let mut totals = Totals::none();
     for before in 0..GAMES {
@@ -175,7 +217,11 @@ fn fill<'a, R: Source, W: Sink, A: Allocator, H: GameHandler>(
             offset: totals.bytes,
         };
         let handled = match next_handled(handler, window, place) {
-            Err(failure) => return Err(failure),
+            Err(Failure::Read) => {
+                return Err(finish(handler, window, page, writer, before, totals.bytes));
+            }
+            Err(Failure::Memory) => return Err(Failure::Memory),
+            Err(Failure::Write) => return Err(Failure::Write),
             Ok(None) => return Ok(totals.with_rest(before, window.unread().len())),
             Ok(Some(handled)) => handled,
         };
@@ -201,8 +247,9 @@ fn has_broken(ended: &Result<Totals, Failure>) -> bool
 ///
 /// # Errors
 ///
-/// `Read`: a read failed, there were 2^40, or there were 2^57 stretches; what is written of all before it is written. `Write`: a write failed or took no byte,
-/// and a prefix is written. `Memory`: there was none; what is written of all stretches before is written.
+/// `Read`: a read failed, there were 2^40, or there were 2^57 stretches. The bytes that came are gone over as if the source had ended there, and what is written
+/// of all their stretches is written, but for one that reaches the last byte. `Write`: a write failed or took no byte, and a prefix is written. `Memory`: there
+/// was none; what is written of all stretches before is written.
 pub fn go_over<'a, R: Source, W: Sink, A: Allocator, H: GameHandler>(
     alloc: Global,
     handler: &H,
@@ -214,7 +261,7 @@ pub fn go_over<'a, R: Source, W: Sink, A: Allocator, H: GameHandler>(
     requires sound { KnowsItsEnd R.ended window.old }
     requires fresh { window.old.bytes ≡ [] }
     requires reads { window.old.reads ≤ 1099511627776 }
-    ensures { GoesOver R.gives R.failed (λ n o b u is t. H.handles handler.now n o b u is t) R.ended window.old.reads H.white W.takes W.failed head.now window.old.source window.new writer.old writer.new result }
+    ensures { GoesOver R.gives R.failed (λ n o b u is t. H.handles handler.now n o b u is t) H.white R.ended window.old.reads W.takes W.failed head.now window.old.source window.new writer.old writer.new result }
 {
     let Ok(page) = OutputBuffer::new(alloc) else {
         return Err(Failure::Memory);

@@ -1,6 +1,6 @@
 //! The bytes of a collection that are at hand.
 
-ghost use Rattle.std.specs.Prelude.{◌≡◌, ◌⊎◌, ◌≤◌, ◌<◌, [], true, false, drop, length, vec_len, IfErr, IfOk};
+ghost use Rattle.std.specs.Prelude.{◌≡◌, ◌⊎◌, ◌≤◌, ◌<◌, ◌+◌, [], true, false, drop, length, vec_len, IfErr, IfOk};
 ghost use Rattle.chess_collection.specs.Windows.{Comes, IsWide, NoMore, KnowsItsEnd};
 
 use byte_streams::Source;
@@ -89,14 +89,15 @@ impl<'a, R: Source, A: Allocator> Window<'a, R, A> {
         self.used += count;
     }
 
-    /// Reads once.
+    /// Reads once: at most 65,536 bytes. If the read fails, all that came before it is still at hand.
     pub fn read_more(&mut self) -> Result<(), Failure>
         requires sound { KnowsItsEnd R.ended self.old }
         requires goes_on { self.old.has_ended ≡ false }
         ensures came { IfOk result (λ _. Comes R.gives R.failed self.old self.new) }
         ensures sound { IfOk result (λ _. KnowsItsEnd R.ended self.new) }
         ensures less { IfOk result (λ _. (self.new.has_ended ≡ true) ⊎ (self.new.reads < self.old.reads)) }
-        ensures broken { IfErr result (λ failure. NoMore R.gives R.failed self.old.source self.old.reads self.new.source failure) }
+        ensures few { IfOk result (λ _. length self.new.bytes ≤ length self.old.bytes + 65536) }
+        ensures broken { IfErr result (λ failure. NoMore R.gives R.failed (λ bytes. length bytes ≤ length self.old.bytes) self.old self.new failure) }
     {
         drop_front(&mut self.bytes, self.used);
         self.used = 0;
@@ -121,7 +122,8 @@ impl<'a, R: Source, A: Allocator> Window<'a, R, A> {
         ensures came { IfOk result (λ _. Comes R.gives R.failed self.old self.new) }
         ensures sound { IfOk result (λ _. KnowsItsEnd R.ended self.new) }
         ensures wide { IfOk result (λ _. (most ≤ length self.new.bytes) ⊎ (self.new.has_ended ≡ true)) }
-        ensures broken { IfErr result (λ failure. NoMore R.gives R.failed self.old.source self.old.reads self.new.source failure) }
+        ensures few { IfOk result (λ _. (length self.new.bytes ≤ length self.old.bytes) ⊎ (length self.new.bytes < most + 65536)) }
+        ensures broken { IfErr result (λ failure. NoMore R.gives R.failed (λ bytes. (length bytes ≤ length self.old.bytes) ⊎ (length bytes < most + 65536)) self.old self.new failure) }
     {
         while !self.has_ended && self.unread().len() < most {
             self.read_more()?;
@@ -142,7 +144,8 @@ impl<'a, R: Source, A: Allocator> Window<'a, R, A> {
         ensures came { IfOk result (λ _. Comes R.gives R.failed self.old self.new) }
         ensures sound { IfOk result (λ _. KnowsItsEnd R.ended self.new) }
         ensures wide { IfOk result (λ _. IsWide self.new) }
-        ensures broken { IfErr result (λ failure. NoMore R.gives R.failed self.old.source self.old.reads self.new.source failure) }
+        ensures few { IfOk result (λ _. (length self.new.bytes ≤ length self.old.bytes) ⊎ (length self.new.bytes < 3342336)) }
+        ensures broken { IfErr result (λ failure. NoMore R.gives R.failed (λ bytes. (length bytes ≤ length self.old.bytes) ⊎ (length bytes < 3342336)) self.old self.new failure) }
     {
         if self.is_wide() {
             return Ok(());
