@@ -31,7 +31,7 @@ decided_item place hand more found A (inr all) none e =
     whole None = refl
     whole (Some x) = ap (λ (y : List ℕ). Some (x.0, y)) (sym (append-nil x.1))
 
-near_item : (place : Place) (old hand rest : List ℕ) (item : Item) → Near place old hand → item_at place hand ≡ the item rest → length old ≤ 65537 → length rest ≤ 65537
+near_item : (place : Place) (old hand rest : List ℕ) (item : Item) → Near place old hand → item_at place hand ≡ the item rest → length old ≤ 65537 → length rest ≤ 65536
 near_item place old hand rest item (inl e) found small = (let s = item_shorter place hand item rest found in let l = ap length e in omega (arith, s, l))
 near_item place old hand rest item (inr h) found small =
     (let s = undecided_taken place h.0 h.1 item rest h.4 (subst (λ (x : List ℕ). item_at place x ≡ the item rest) h.2 found) in omega (arith, s, h.3))
@@ -60,11 +60,11 @@ undecided_bracket place (b ∷ hand) more rest some undecided found =
     undecided (subst (λ (x : ℕ). Decides place (x ∷ hand)) (sym k) (bracket_decided place hand t.2.stands))
 
 -- so it was brought by a read for which nothing was at hand
-near_bracket : (place : Place) (old hand rest : List ℕ) → Near place old hand → item_at place hand ≡ the TagOpen rest → length old ≤ 65537 → length hand ≤ 65537
+near_bracket : (place : Place) (old hand rest : List ℕ) → Near place old hand → item_at place hand ≡ the TagOpen rest → length old ≤ 65536 → length hand ≤ 65536
 near_bracket place old hand rest (inl e) found small = (let l = ap length e in omega (arith, l, small))
 near_bracket place old hand rest (inr h) found small = (let t = item_taken place hand TagOpen rest found in by h.0 h.1 h.2 h.3 h.4 t.2.stands (t.1 ∙ ap (λ (x : List ℕ). x ++ rest) t.2.spelled))
   where
-    by : (prefix piece : List ℕ) → hand ≡ prefix ++ piece → length piece ≤ 65536 → (Decides place prefix → ⊥) → may_stand place TagOpen ≡ true → hand ≡ byte "[" ∷ rest → length hand ≤ 65537
+    by : (prefix piece : List ℕ) → hand ≡ prefix ++ piece → length piece ≤ 65536 → (Decides place prefix → ⊥) → may_stand place TagOpen ≡ true → hand ≡ byte "[" ∷ rest → length hand ≤ 65536
     by [] piece e few undecided stands is = (let l = ap length e in omega (arith, l, few))
     by (b ∷ prefix) piece e few undecided stands is =
         (let k : b ≡ byte "[" = first b (byte "[") (prefix ++ piece) rest (sym e ∙ is) in absurd (undecided (subst (λ (x : ℕ). Decides place (x ∷ prefix)) (sym k) (bracket_decided place prefix stands))))

@@ -1,5 +1,5 @@
 -- Items are taken, one after another.
-use Rattle.std.proofs.Common.{◌≡◌, inl, inr, ℕ, ◌+◌, ◌-◌, ◌≤◌, arith, length-append, Bool, true, false, ◌&&◌, List, [], ◌∷◌, ◌++◌, length, refl, sym, ap, subst, ◌∙◌, append_assoc, append-nil, Ok}
+use Rattle.std.proofs.Common.{◌≡◌, ◌≢◌, inl, inr, ℕ, ◌+◌, ◌-◌, ◌≤◌, arith, length-append, Bool, true, false, ◌&&◌, List, [], ◌∷◌, ◌++◌, length, refl, sym, ap, subst, ◌∙◌, append_assoc, append-nil, Ok}
 use Rattle.byte_streams.specs.Calls.{Calls, joined}
 use Rattle.byte_streams.proofs.CallLemmas.{Calls-append, joined-append}
 use Rattle.chess_items.specs.Items.{Item, Spells, is_white, place_after}
@@ -64,6 +64,7 @@ module _ {X T : Type 0} (comes : X → List ℕ → X → Type 0) (at_hand : X �
     pub taken : Takes takes t items u
     pub asked : Asked comes at_hand all sound reads takes limit old (joined pieces) now t items
     pub near : length (at_hand old) ≤ 65537 → length (at_hand now) ≤ 65537
+    pub nearer : items ≢ [] → length (at_hand old) ≤ 65537 → length (at_hand now) ≤ 65536
 
   pub underway_start : sound old → Underway 0 GameStart true old t
   underway_start so = record {
@@ -82,6 +83,7 @@ module _ {X T : Type 0} (comes : X → List ℕ → X → Type 0) (at_hand : X �
     taken = refl;
     asked = inl refl;
     near = (λ h. h);
+    nearer = (λ some h. absurd (some refl));
   }
 
   module _ (at : ℕ) (place : Place) (white : Bool) (now : X) (u : T) (w : Underway at place white now u) (ps : List (List ℕ)) (new : X) (came : Calls comes now ps new) where
@@ -217,7 +219,8 @@ module _ {X T : Type 0} (comes : X → List ℕ → X → Type 0) (at_hand : X �
         took = took_one next is e h;
         taken = takes_more takes t u v w.items (at, item) w.taken taken;
         asked = asked_more (joined (w.pieces ++ ps)) (at, item) (asked_on one.asked);
-        near = (λ h. one.near (w.near h));
+        near = (λ h. let n = one.near (w.near h) in omega (arith, n));
+        nearer = (λ some h. one.near (w.near h));
       }
 
       pub ran_full : (v : T) (next : Place) (is : Bool) → takes u at item (Ok Ends) v → next ≡ place_after place item → is ≡ is_white item
@@ -256,8 +259,8 @@ module _ {X T : Type 0} (comes : X → List ℕ → X → Type 0) (at_hand : X �
 
       after_stop : (v : T) (why : Stop) → AfterStop comes at_hand all sound reads takes at (limit - at) place now new u v why → Needs comes at_hand all reads (limit - at) place now (joined ps) new → AfterRun comes at_hand all sound reads takes limit old (w.pieces ++ ps) new t v at place white why
       after_stop v stop.Full a n = absurd a
-      after_stop v stop.Left a n = record { items = w.items; took = took_rest; mid = u; taken = w.taken; item = a.0; rest = a.1.rest; found = a.1.found; answered = a.2; asked = asked_on n; near = (λ h. a.1.near (w.near h)); bracket = (λ e h. a.1.bracket e (w.near h)) }
-      after_stop v (stop.Refused fault) a n = record { items = w.items; took = took_rest; mid = u; taken = w.taken; item = a.0; rest = a.1.rest; found = a.1.found; answered = a.2; asked = asked_on n; near = (λ h. a.1.near (w.near h)); bracket = (λ e h. a.1.bracket e (w.near h)) }
+      after_stop v stop.Left a n = record { items = w.items; took = took_rest; mid = u; taken = w.taken; item = a.0; rest = a.1.rest; found = a.1.found; answered = a.2; asked = asked_on n; near = (λ h. a.1.near (w.near h)); bracket = (λ e some h. a.1.bracket e (w.nearer some h)) }
+      after_stop v (stop.Refused fault) a n = record { items = w.items; took = took_rest; mid = u; taken = w.taken; item = a.0; rest = a.1.rest; found = a.1.found; answered = a.2; asked = asked_on n; near = (λ h. a.1.near (w.near h)); bracket = (λ e some h. a.1.bracket e (w.nearer some h)) }
       after_stop v stop.End a n = record { items = w.items; took = took_rest; taken = subst (λ x. Takes takes t w.items x) (sym a.2) w.taken; asked = asked_on n; ended = a.0; nothing = a.1 }
       after_stop v stop.NoItem a n = record { items = w.items; took = took_rest; taken = subst (λ x. Takes takes t w.items x) (sym a.1) w.taken; none = a.0; asked = asked_on n }
       after_stop v stop.TooLarge a n = record { items = w.items; took = took_rest; mid = u; taken = w.taken; exceeds = a; asked = asked_on n }

@@ -1,5 +1,5 @@
 -- The game that a reader answers stands at the start of the text.
-use Rattle.std.proofs.Common.{◌≡◌, ℕ, ◌+◌, ◌≤◌, Bool, true, false, ◌&&◌, List, [], ◌∷◌, ◌++◌, length, Some, refl, sym, subst, ap, ◌∙◌, arith, append_assoc, append-nil, length-append}
+use Rattle.std.proofs.Common.{◌≡◌, ◌≢◌, ℕ, ◌+◌, ◌≤◌, Bool, true, false, ◌&&◌, List, [], ◌∷◌, ◌++◌, length, Some, refl, sym, subst, ap, ◌∙◌, arith, append_assoc, append-nil, length-append}
 use Rattle.std.specs.Prelude.{Option, None, Result, Ok}
 use Rattle.std.specs.List.{list_all}
 use Rattle.std.specs.Str.{byte}
@@ -191,7 +191,7 @@ module _ {X A : Type 0} (comes : X → List ℕ → X → Type 0) (at_hand : X �
     needs : (is : List (ℕ × Item)) → Asked comes at_hand all sound reads takes limit old (joined pieces) new t is → ReadsNeeded comes at_hand all reads old (joined pieces) new
     needs is asked = asked_needed comes at_hand all sound reads old t new_reader (joined pieces) new is asked
 
-    come : (is : List (ℕ × Item)) → Took comes at_hand all sound reads takes limit old pieces new is at place white → list_all is_white (bare is) ≡ false → game.tree.path ≡ [] → (length (at_hand old) ≤ 65537 → length (at_hand new) ≤ 65537)
+    come : (is : List (ℕ × Item)) → Took comes at_hand all sound reads takes limit old pieces new is at place white → list_all is_white (bare is) ≡ false → game.tree.path ≡ [] → (length (at_hand old) ≤ 65537 → length (at_hand new) ≤ 65536)
         → ReadsNeeded comes at_hand all reads old (joined pieces) new → IsWithinLimits (game_of game) → ((more : List ℕ) → (all new → more ≡ []) → Gives (bare is) (at_hand new ++ more) (game_of game)) → HasCome comes at_hand all reads old new game at
     come is took some cursor near needed within gives = let prefix = spelled_front 0 GameStart (at_hand old ++ (joined pieces ++ [])) is (at_hand new ++ []) (took.spelled [] (λ h. refl)) in record {
       pieces = pieces;
@@ -215,6 +215,9 @@ module _ {X A : Type 0} (comes : X → List ℕ → X → Type 0) (at_hand : X �
       still = took.at_end;
     }
 
+    dark_some : (is : List (ℕ × Item)) → list_all is_white (bare is) ≡ false → is ≢ []
+    dark_some is dark e = let k : true ≡ false = sym (ap (λ (x : List (ℕ × Item)). list_all is_white (bare x)) e) ∙ dark in cc
+
     come_full : RanFull comes at_hand all sound reads takes limit old pieces new t u at place white → Closed u game → HasCome comes at_hand all reads old new game at
     come_full r c =
         let is = bare r.items in
@@ -228,7 +231,7 @@ module _ {X A : Type 0} (comes : X → List ℕ → X → Type 0) (at_hand : X �
         let is = bare r.items in
         let p : Progress is r.mid = progress_all [] r.items t r.mid (progress_new t new_reader) r.taken in
         let g = left_gives is r.item game r.mid u c p r.answered in
-        come r.items r.took g.1 (g.2 (byte "[" ∷ []) [] refl).1 (r.bracket g.0) (needs r.items r.asked) c.within
+        come r.items r.took g.1 (g.2 (byte "[" ∷ []) [] refl).1 (r.bracket g.0 (dark_some r.items g.1)) (needs r.items r.asked) c.within
         (λ more none.
         let k = item_taken place (at_hand new ++ more) r.item (r.rest ++ more) (r.found more none) in
         (g.2 (at_hand new ++ more) (r.rest ++ more) (bracket_first k.0 r.item (at_hand new ++ more) (r.rest ++ more) g.0 k.2.spelled k.1)).0)

@@ -88,8 +88,8 @@ pub record HasGame {R : Type 0} (gives : R → List ℕ → R → Type 0) (faile
   pub parts : unread old ++ bytes ≡ text ++ unread new
   -- whatever follows, these bytes begin with this game, which takes as many of them as that text has
   pub reads : (more : List ℕ) → (new.has_ended ≡ true → more ≡ []) → BeginsWithGame (unread old ++ (bytes ++ more)) game (length text)
-  -- where at most a piece (65,536 bytes) and a byte were at hand, no more than that are left
-  pub near : length (unread old) ≤ 65537 → length (unread new) ≤ 65537
+  -- if at most a piece (65,536 bytes) and a byte were at hand, at most a piece is left
+  pub near : length (unread old) ≤ 65537 → length (unread new) ≤ 65536
   -- no read was made that wasn't needed: no one game was at the start of the bytes before the last read, whatever follows
   pub needed : ReadsNeeded (unread old) came.pieces
   -- a source whose end was seen is not read again, and its end is still seen

@@ -82,7 +82,7 @@ module _ {X T : Type 0} (comes : X → List ℕ → X → Type 0) (at_hand : X �
   pub record UsesItem (most : ℕ) (place : Place) (old : X) (pieces : List (List ℕ)) (new : X) (item : Item) (used : ℕ) : Type 0 where
     pub found : Whatever new (λ more. item_at place (at_hand old ++ (joined pieces ++ more)) ≡ Some (item, at_hand new ++ more))
     pub asked : Needs comes at_hand all reads most place old (joined pieces) new
-    pub near : length (at_hand old) ≤ 65537 → length (at_hand new) ≤ 65537
+    pub near : length (at_hand old) ≤ 65537 → length (at_hand new) ≤ 65536
     pub at_end : all old → (joined pieces ≡ []) × all new
     pub sound_still : sound new
     pub smaller : size at_hand reads new + 1 ≤ size at_hand reads old
@@ -99,8 +99,8 @@ module _ {X T : Type 0} (comes : X → List ℕ → X → Type 0) (at_hand : X �
   pub record Next (place : Place) (old new : X) (item : Item) : Type 0 where
     pub rest : List ℕ
     pub found : Whatever new (λ more. item_at place (at_hand new ++ more) ≡ Some (item, rest ++ more))
-    pub near : length (at_hand old) ≤ 65537 → length rest ≤ 65537
-    pub bracket : item ≡ TagOpen → length (at_hand old) ≤ 65537 → length (at_hand new) ≤ 65537
+    pub near : length (at_hand old) ≤ 65537 → length rest ≤ 65536
+    pub bracket : item ≡ TagOpen → length (at_hand old) ≤ 65536 → length (at_hand new) ≤ 65536
 
   -- what comes next is no item
   pub record NoNext (most : ℕ) (place : Place) (new : X) : Type 0 where
@@ -178,7 +178,7 @@ module _ {X T : Type 0} (comes : X → List ℕ → X → Type 0) (at_hand : X �
     pub taken : Takes takes t items mid
     pub ends : takes mid last.0 last.1 (Ok Ends) u
     pub asked : Asked limit old (joined pieces) new t items
-    pub near : length (at_hand old) ≤ 65537 → length (at_hand new) ≤ 65537
+    pub near : length (at_hand old) ≤ 65537 → length (at_hand new) ≤ 65536
 
   -- the next item isn't used, with this answer
   pub record RanUpTo (limit : ℕ) (old : X) (pieces : List (List ℕ)) (new : X) (t u : T) (at : ℕ) (place : Place) (white : Bool) (answer : Result Taken PgnFault) : Type 0 where
@@ -191,8 +191,8 @@ module _ {X T : Type 0} (comes : X → List ℕ → X → Type 0) (at_hand : X �
     pub found : Whatever new (λ more. item_at place (at_hand new ++ more) ≡ Some (item, rest ++ more))
     pub answered : takes mid at item answer u
     pub asked : Asked limit old (joined pieces) new t items
-    pub near : length (at_hand old) ≤ 65537 → length rest ≤ 65537
-    pub bracket : item ≡ TagOpen → length (at_hand old) ≤ 65537 → length (at_hand new) ≤ 65537
+    pub near : length (at_hand old) ≤ 65537 → length rest ≤ 65536
+    pub bracket : item ≡ TagOpen → items ≢ [] → length (at_hand old) ≤ 65537 → length (at_hand new) ≤ 65536
 
   -- the text has ended
   pub record RanOut (limit : ℕ) (old : X) (pieces : List (List ℕ)) (new : X) (t u : T) (at : ℕ) (place : Place) (white : Bool) : Type 0 where

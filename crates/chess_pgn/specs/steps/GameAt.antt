@@ -41,7 +41,7 @@ module _ {X : Type 0} (comes : X → List ℕ → X → Type 0) (at_hand : X →
     pub text : List ℕ
     pub parts : at_hand old ++ joined pieces ≡ text ++ at_hand new
     pub counted : length text ≡ used
-    pub near : length (at_hand old) ≤ 65537 → length (at_hand new) ≤ 65537
+    pub near : length (at_hand old) ≤ 65537 → length (at_hand new) ≤ 65536
     pub needed : ReadsNeeded old (joined pieces) new
     pub cursor : game.tree.path ≡ []
     pub still : all old → (joined pieces ≡ []) × all new
