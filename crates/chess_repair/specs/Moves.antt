@@ -2,8 +2,8 @@
 --   mark         what a byte says between its neighbours: a man's capital letter, a file's small letter, a rank's digit, O for a circle of castling, = and a capital
 --                letter for the man that a pawn becomes, + or #; a sign between the parts of a move says nothing
 --   said         what all bytes say, one after the other
---   meant        the text as a kind of repair takes it: the P of a pawn is left out, a man's small letter is large, a file's large letter is small; only the first
---                byte, and for one kind each
+--   meant        the text as a kind of repair takes it: the P of a pawn is left out, a man's small letter is large, a file's large letter before a rank is small;
+--                only the first byte, and for one kind each
 --   IsMove       a text says what another means
 use Rattle.std.specs.Prelude.{◌≡◌, ℕ, Bool, true, false, ◌||◌, ◌&&◌, ◌==◌, not, nat_le, ◌+◌, ◌-◌, if◌then◌else◌, List, [], ◌∷◌, ◌++◌}
 use Rattle.std.specs.Str.{byte}
@@ -62,15 +62,15 @@ is_small b = b == byte "n" || b == byte "r" || b == byte "q" || b == byte "k"
 unfoldable pub is_large : ℕ → Bool
 is_large b = b == byte "A" || (nat_le (byte "C") b && nat_le b (byte "H"))
 
-abbrev pub first_meant : RepairKind → ℕ → List ℕ
-first_meant k.Pawn b = if b == byte "P" then [] else b ∷ []
-first_meant k.Small b = if is_small b then capital b ∷ [] else b ∷ []
-first_meant k.Large b = if is_large b then small b ∷ [] else b ∷ []
-first_meant _ b = b ∷ []
+abbrev pub first_meant : RepairKind → ℕ → List ℕ → List ℕ
+first_meant k.Pawn b more = if b == byte "P" then [] else b ∷ []
+first_meant k.Small b more = if is_small b then capital b ∷ [] else b ∷ []
+first_meant k.Large b more = if is_large b && has_rank_next more then small b ∷ [] else b ∷ []
+first_meant _ b more = b ∷ []
 
 abbrev pub meant : RepairKind → List ℕ → List ℕ
 meant kind [] = []
-meant kind (b ∷ more) = first_meant kind b ++ more
+meant kind (b ∷ more) = first_meant kind b more ++ more
 
 abbrev pub IsMove : RepairKind → List ℕ → List ℕ → Type 0
 IsMove kind was now = said (meant kind was) ≡ said now

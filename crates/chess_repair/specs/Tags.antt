@@ -7,10 +7,11 @@
 --   value_in        the value: that text without a right bracket at its end, then without blanks and quotation marks there, and without blanks at its beginning
 --   escaped         a value with a backslash before each quotation mark and backslash, except before and after one that escapes already (PGN 7)
 --   tag_text        a tag as the standard has it (PGN 8.1.1)
---   IsTag           the tag that is meant: this name, and this value
+--   IsTag           the tag that is meant by a text on one line, which begins with a left bracket: this name, and this value
 use Rattle.std.specs.Prelude.{◌≡◌, ℕ, Bool, true, false, ◌||◌, ◌&&◌, ◌==◌, nat_le, if◌then◌else◌, List, [], ◌∷◌, ◌++◌, reverse, Option, Some, None, codes}
 use Rattle.std.specs.Str.{byte}
-use Rattle.chess_items.specs.Items.{is_blank, is_name_byte}
+use Rattle.std.specs.List.{list_all}
+use Rattle.chess_items.specs.Items.{in_line, is_blank, is_name_byte}
 use Rattle.chess_repair.specs.Runs.{has_first, past, past_end}
 
 unfoldable pub is_quote : ℕ → Bool
@@ -104,5 +105,10 @@ escaped false (b ∷ bs) = if escapes b bs then b ∷ escaped true bs else (if i
 abbrev pub tag_text : List ℕ → List ℕ → List ℕ
 tag_text name value = codes "[" ++ (name ++ (codes " \"" ++ (escaped false value ++ codes "\"]")))
 
+-- on one line, from its left bracket on
+abbrev pub is_rough_tag : List ℕ → Bool
+is_rough_tag [] = false
+is_rough_tag (b ∷ bs) = b == byte "[" && list_all in_line bs
+
 abbrev pub IsTag : List ℕ → List ℕ → Type 0
-IsTag was now = now ≡ tag_text (name_in was) (value_in was)
+IsTag was now = (is_rough_tag was ≡ true) × (now ≡ tag_text (name_in was) (value_in was))

@@ -74,31 +74,35 @@ pub fn after(bytes: &[u8], len: usize) -> &[u8] {
 
 /// Punctuation that belongs to no item.
 pub fn is_stray(b: u8) -> bool {
-    matches!(b, b',' | b'&' | b'\'' | b'"' | b'`' | b'^' | b'|' | b'\\' | b'%')
+    matches!(
+        b,
+        b',' | b'&' | b'\'' | b'"' | b'`' | b'^' | b'|' | b'\\' | b'%'
+    )
 }
 
 // A byte of a word: what is no item of its own.
 fn is_lump(b: u8) -> bool {
-    !is_stray(b) && !matches!(
-        b,
-        0..=32
-            | 127
-            | b'('
-            | b')'
-            | b'{'
-            | b'}'
-            | b'['
-            | b']'
-            | b';'
-            | b'$'
-            | b'!'
-            | b'?'
-            | b'.'
-            | b'*'
-            | b'<'
-            | b'>'
-            | 0xa0
-    )
+    !is_stray(b)
+        && !matches!(
+            b,
+            0..=32
+                | 127
+                | b'('
+                | b')'
+                | b'{'
+                | b'}'
+                | b'['
+                | b']'
+                | b';'
+                | b'$'
+                | b'!'
+                | b'?'
+                | b'.'
+                | b'*'
+                | b'<'
+                | b'>'
+                | 0xa0
+        )
 }
 
 // Whether a byte begins a character of UTF-8 that is no word's: a space, an ellipsis, a mark.

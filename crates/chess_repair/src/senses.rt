@@ -127,13 +127,13 @@ fn said(text: &[u8]) -> Option<Marks>
 }
 
 // Adds what the first byte of a move means where it is mended so.
-fn push_first(text: &mut Marks, kind: RepairKind, b: u8) -> Option<()>
-    ensures { IfSome result (λ _. text.new.items ≡ text.old.items ++ first_meant kind b) }
+fn push_first(text: &mut Marks, kind: RepairKind, b: u8, more: &[u8]) -> Option<()>
+    ensures { IfSome result (λ _. text.new.items ≡ text.old.items ++ first_meant kind b more.now) }
 {
     match kind {
         RepairKind::Pawn if b == b'P' => Some(()),
         RepairKind::Small if is_small(b) => text.try_push(capital(b)).ok(),
-        RepairKind::Large if is_large(b) => text.try_push(small(b)).ok(),
+        RepairKind::Large if is_large(b) && has_rank_next(more) => text.try_push(small(b)).ok(),
         _ => text.try_push(b).ok(),
     }
 }
@@ -144,7 +144,7 @@ fn meant(kind: RepairKind, word: &[u8]) -> Option<Marks>
 {
     let mut text = ArrayVec::new();
     if let [b, more @ ..] = word {
-        push_first(&mut text, kind, *b)?;
+        push_first(&mut text, kind, *b, more)?;
         text.try_extend_from_slice(more).ok()?;
     }
     Some(text)

@@ -1,10 +1,10 @@
 //! Tags that can be read, and tags that are mended.
 
 ghost use Rattle.std.specs.Prelude.{◌≡◌, ◌∷◌, ◌++◌, [], None, Some, false, IfOk, IfSome};
-ghost use Rattle.std.specs.List.{list_any};
-ghost use Rattle.chess_items.specs.Items.{is_name_byte};
+ghost use Rattle.std.specs.List.{list_all};
+ghost use Rattle.chess_items.specs.Items.{in_line, is_name_byte};
 ghost use Rattle.chess_repair.specs.Runs.{has_first, past_end};
-ghost use Rattle.chess_repair.specs.Tags.{IsTag, after_bracket, after_quote, begins_tag, escaped, escapes, first_name, has_name, is_bracket, is_edge, is_escapable, is_kept, is_quote, name_before_quote, name_in, opens_tag, rough_value, tag_text, unclosed, value_in};
+ghost use Rattle.chess_repair.specs.Tags.{IsTag, after_bracket, after_quote, begins_tag, escaped, escapes, first_name, has_name, is_bracket, is_edge, is_escapable, is_kept, is_quote, is_rough_tag, name_before_quote, name_in, opens_tag, rough_value, tag_text, unclosed, value_in};
 
 use crate::marks::{after, blanks, is_blank, is_name, last_of, len_to, name_len, without_blanks};
 use crate::runs::{past_blanks, past_name};
@@ -368,7 +368,7 @@ fn push_escaped<'a, A: Allocator>(text: &mut Vec<u8, &'a A>, value: &[u8]) -> Re
 
 // The tag that is meant by a text.
 fn text_of<'a, A: Allocator>(alloc: &'a A, tag: &[u8]) -> Result<Vec<u8, &'a A>, AllocError>
-    ensures { IfOk result (λ text. IsTag tag.now text.items) }
+    ensures { IfOk result (λ text. text.items ≡ tag_text (name_in tag.now) (value_in tag.now)) }
 {
     let mut text = Vec::new(alloc);
     text.push(b'[')?;
@@ -377,6 +377,23 @@ fn text_of<'a, A: Allocator>(alloc: &'a A, tag: &[u8]) -> Result<Vec<u8, &'a A>,
     push_escaped(&mut text, value_of(tag))?;
     text.extend_from_slice(b"\"]")?;
     Ok(text)
+}
+
+// Whether a text is on one line, and begins with a left bracket.
+fn is_rough_tag(text: &[u8]) -> bool
+    ensures { result ≡ is_rough_tag text.now }
+{
+    match text {
+        [b, more @ ..] => *b == b'[' && are_in_line(more),
+        [] => false,
+    }
+}
+
+// Whether no byte ends a line.
+fn are_in_line(text: &[u8]) -> bool
+    ensures { result ≡ list_all in_line text.now }
+{
+    text.iter().all(|b| *b != b'\n')
 }
 
 // The start of a text up to the end of its line, without blanks there; and whether the line goes on after it.
@@ -407,6 +424,9 @@ pub fn mend_tag<'t, 'a, A: Allocator>(
         return Ok(None);
     };
     let was = &line[..length.min(line.len())];
+    if !is_rough_tag(was) {
+        return Ok(None);
+    }
     Ok(Some(MendedTag {
         was,
         text: text_of(alloc, was)?,

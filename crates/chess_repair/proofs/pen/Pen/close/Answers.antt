@@ -24,8 +24,8 @@ loop-init g c = record {
 pub loop-preserved : goal.loop-preserved
 loop-preserved g c = record {
   rewrites =
-    one_more_so (length c.loop.self-inside.text.now) c.loop.self-inside.text.now c.loop.self-inside.repairs.items c.put.new.repairs.items c.loop.self-inside.out.items c.put.new.out.items c.loop.self-inside.rest.now [] c.loop.self-inside.rest.now
-    (10 ∷ codes ")") (32 ∷ 10 ∷ codes ") ") _ c.loop.invariant.rewrites refl (inr (refl, refl, c.loop.invariant.closes)) c.loop.invariant.placed refl refl refl c.in_ok-put.ensures.repairs c.in_ok-put.ensures.text;
+      one_more_so (length c.loop.self-inside.text.now) c.loop.self-inside.text.now c.loop.self-inside.repairs.items c.put.new.repairs.items c.loop.self-inside.out.items c.put.new.out.items c.loop.self-inside.rest.now [] c.loop.self-inside.rest.now
+      (10 ∷ codes ")") (32 ∷ 10 ∷ codes ") ") _ c.loop.invariant.rewrites refl (inr (refl, refl, c.loop.invariant.closes)) c.loop.invariant.placed refl refl refl c.in_ok-put.ensures.repairs c.in_ok-put.ensures.text;
   same = c.loop.invariant.same;
   closes = c.loop.invariant.closes;
   placed = c.loop.invariant.placed;
