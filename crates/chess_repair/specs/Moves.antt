@@ -5,7 +5,7 @@
 --   meant        the text as a kind of repair takes it: the P of a pawn is left out, a man's small letter is large, a file's large letter before a rank is small;
 --                only the first byte, and for one kind each
 --   IsMove       a text says what another means
-use Rattle.std.specs.Prelude.{◌≡◌, ℕ, Bool, true, false, ◌||◌, ◌&&◌, ◌==◌, not, nat_le, ◌+◌, ◌-◌, if◌then◌else◌, List, [], ◌∷◌, ◌++◌}
+use Rattle.std.specs.Prelude.{◌≡◌, ℕ, Bool, false, ◌||◌, ◌&&◌, ◌==◌, not, nat_le, ◌+◌, ◌-◌, if◌then◌else◌, List, [], ◌∷◌, ◌++◌}
 use Rattle.std.specs.Str.{byte}
 use Rattle.chess_repair.specs.declared.repair.RepairKind.{RepairKind}
 use Rattle.chess_repair.specs.declared.repair.RepairKind.TheVariants as k

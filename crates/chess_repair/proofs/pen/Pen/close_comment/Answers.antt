@@ -1,4 +1,4 @@
-use Rattle.std.proofs.Common.{◌∙◌, inr, [], ◌∷◌, length, refl, sym, arith}
+use Rattle.std.proofs.Common.{◌∙◌, inr, [], length, refl, sym, arith}
 use Rattle.std.specs.Prelude.{codes}
 use Rattle.chess_repair.proofs.RewriteLemmas.{fits, one_more_so}
 use Rattle.chess_repair.proofs.pen.Pen.close_comment.Goals as goal

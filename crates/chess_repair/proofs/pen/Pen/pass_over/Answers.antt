@@ -1,4 +1,4 @@
-use Rattle.std.proofs.Common.{◌∙◌, rules, inr, [], ◌∷◌, ◌++◌, List, ℕ, drop, length, take, refl, sym, ap, arith, take-append-drop}
+use Rattle.std.proofs.Common.{inr, [], length, refl, arith}
 use Rattle.std.specs.Prelude.{codes}
 use Rattle.chess_repair.proofs.RewriteLemmas.{fits, one_more_so, split_so}
 use Rattle.chess_repair.proofs.pen.Pen.pass_over.Goals as goal
