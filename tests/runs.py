@@ -2,8 +2,11 @@
 
 The answers are those of the FIDE Laws, of the PGN standard and of the UCI protocol, as docs/FORMATS.md has them.
 """
+import contextlib
+import ctypes
 import dataclasses
 import fcntl
+import mmap
 import os
 import shutil
 import subprocess
@@ -32,6 +35,26 @@ def help_of(program):
     """The whole text of a program's `--help`, as tests/help keeps it."""
     with open(f"{TOP}/tests/help/{program}.txt", encoding="utf-8") as kept:
         return kept.read().replace("VERSION", VERSION, 1)
+
+
+@contextlib.contextmanager
+def failing_input(given):
+    """A file whose reads give these bytes, and then fail: Linux shows the memory of this process as a file, and a read of an address without memory fails."""
+    system = ctypes.CDLL(None)
+    system.mmap.argtypes = [ctypes.c_void_p, ctypes.c_size_t, ctypes.c_int, ctypes.c_int, ctypes.c_int, ctypes.c_long]
+    system.mmap.restype = ctypes.c_void_p
+    system.munmap.argtypes = [ctypes.c_void_p, ctypes.c_size_t]
+    size = -(-len(given) // mmap.PAGESIZE) * mmap.PAGESIZE
+    start = system.mmap(None, size + mmap.PAGESIZE, mmap.PROT_READ | mmap.PROT_WRITE, mmap.MAP_PRIVATE | mmap.MAP_ANONYMOUS, -1, 0)
+    system.munmap(start + size, mmap.PAGESIZE)
+    file = os.open("/proc/self/mem", os.O_RDONLY)
+    try:
+        ctypes.memmove(start + size - len(given), given, len(given))
+        os.lseek(file, start + size - len(given), os.SEEK_SET)
+        yield file
+    finally:
+        os.close(file)
+        system.munmap(start, size)
 
 
 @dataclasses.dataclass

@@ -176,7 +176,7 @@ class Arbiter(unittest.TestCase):
             self.judge(start(given) + "1. Kd1 *", fen_changed="false", start_fen=castles)
             self.assertEqual(rows(start(given) + "1. Kd1 *", "--findings"), [])
         self.judge(start(castles) + "*", fen_changed="false")
-        self.judge(start(castles.replace("R w", "1 w")) + "*", fen_changed="true", start_fen="r3k2r/8/8/8/8/8/8/R3K3 w Qkq - 0 1")
+        self.judge(start(castles.replace("K2R w", "K3 w")) + "*", fen_changed="true", start_fen="r3k2r/8/8/8/8/8/8/R3K3 w Qkq - 0 1")
         double_step = "rnbqkbnr/pppppppp/8/8/4P3/8/PPPP1PPP/RNBQKBNR b KQkq e3 0 1"
         self.judge(start(double_step) + "*", fen_changed="false", start_fen=double_step)
         self.judge("*", fen_changed="false")
@@ -255,6 +255,16 @@ class Arbiter(unittest.TestCase):
         finally:
             os.close(folder)
         self.assertEqual((ended.returncode, ended.stderr), (3, b"read fault\n"))
+
+    def test_a_failed_read_loses_no_game_that_was_read(self):
+        """Each game has its row. One that reaches the last byte hasn't, since more bytes might make it longer. (The longest text is longer than the window.)"""
+        game = '[White "a"]\n\n1. e4 e5 2. Nf3 Nc6 1-0\n\n'
+        for count in (0, 1, 3, 100_000):
+            for rest in ("", "1. d4", '[White "b"]\n\n1. e4 {', "1. d4 *"):
+                with runs.failing_input((game * count + rest + " ").encode()) as file:
+                    ended = subprocess.run([ARBITER, "--format", "jsonl"], stdin=file, capture_output=True, timeout=runs.MOST_SECONDS)
+                self.assertEqual((ended.returncode, ended.stderr), (3, b"read fault\n"))
+                self.assertEqual(ended.stdout.count(b"\n"), count + rest.endswith("*"), (count, rest))
 
 
 if __name__ == "__main__":

@@ -197,6 +197,16 @@ class Salvage(unittest.TestCase):
         self.assertEqual((saved.returncode, len(movetexts(saved.stdout))), (2, 1))
         self.assertEqual(saved.stderr.splitlines()[-1], f"games 2, bytes {len(text)}, passed over 22, repaired 0".encode())
 
+    def test_a_failed_read_loses_no_game_that_was_read(self):
+        """Each game is written. One that reaches the last byte isn't, since more bytes might make it longer. (The longest text is longer than the window.)"""
+        game = b'[White "a"]\n\n1. e4 e5 2. Nf3 Nc6 1-0\n\n'
+        for count in (0, 1, 3, 100_000):
+            for rest in (b"", b"1. d4 ", b'[White "b"]\n\n1. e4 {'):
+                with self.subTest(count=count, rest=rest), runs.failing_input(game * count + rest) as file:
+                    ended = subprocess.run([GAMES, "--salvage"], stdin=file, capture_output=True, timeout=runs.MOST_SECONDS)
+                    self.assertEqual((ended.returncode, ended.stderr.splitlines()[-1]), (3, b"read fault"))
+                    self.assertEqual(ended.stdout, ran(game * count).stdout)
+
 
 if __name__ == "__main__":
     unittest.main()

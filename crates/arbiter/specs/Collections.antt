@@ -74,4 +74,4 @@ header_text Jsonl = []
 
 abbrev pub JudgeEnds : {R W : Type 0} → (R → List ℕ → R → Type 0) → (R → Bool) → (R → Type 0) → (W → List ℕ → W → Type 0) → (W → Bool) → Asked → ℕ → R → Window R → W → W → Result Totals Failure → Type 0
 JudgeEnds gives failed ended takes write_failed asked reads source new old w result =
-    GoesOver gives failed (λ number offset bytes used fate text. IsRowIn asked number offset bytes used fate text) ended reads (λ bytes. ComesLast bytes) takes write_failed (header_text asked.format) source new old w result
+    GoesOver gives failed (λ number offset bytes used fate text. IsRowIn asked number offset bytes used fate text) (λ bytes. ComesLast bytes) ended reads takes write_failed (header_text asked.format) source new old w result

@@ -282,7 +282,8 @@ impl GameHandler for RowMaker {
 ///
 /// # Errors
 ///
-/// `Read`: a read failed, there were 2^40, or there were 2^57 games; the rows of all games before it are written. `Write`: a write failed or took no
+/// `Read`: a read failed, there were 2^40, or there were 2^57 games; the rows of all games that were read are written, except that of one which reaches the last
+/// byte. `Write`: a write failed or took no
 /// byte, and a prefix of the rows is written. `Memory`: there was none for the next game or its row; the rows of all before it are written.
 pub fn judge<'a, R: Source, W: Sink, A: Allocator>(
     alloc: Global,

@@ -74,4 +74,4 @@ IsSavedIn letters form part number offset bytes used fate text = (spelt : List �
 
 abbrev pub SavingEnds : {R W : Type 0} → (R → List ℕ → R → Type 0) → (R → Bool) → (R → Type 0) → (W → List ℕ → W → Type 0) → (W → Bool) → Option Letters → Form → Part → R → W → W → Result Totals Failure → Type 0
 SavingEnds {R} gives failed ended takes write_failed letters form part source old new result =
-    (last : Window R) × GoesOver gives failed (λ number offset bytes used fate text. IsSavedIn letters form part number offset bytes used fate text) ended 1099511627776 (λ bytes. ComesLast bytes) takes write_failed (head_in form) source last old new result
+    (last : Window R) × GoesOver gives failed (λ number offset bytes used fate text. IsSavedIn letters form part number offset bytes used fate text) (λ bytes. ComesLast bytes) ended 1099511627776 takes write_failed (head_in form) source last old new result

@@ -297,7 +297,7 @@ fn save_all<'a, R: Source, W: Sink>(
     requires sound { KnowsItsEnd R.ended window.old }
     requires fresh { window.old.bytes ≡ [] }
     requires reads { window.old.reads ≤ 1099511627776 }
-    ensures { GoesOver R.gives R.failed (λ number offset bytes used fate text. IsSavedIn wanted.now.letters wanted.now.form wanted.now.part number offset bytes used fate text) R.ended window.old.reads (λ bytes. ComesLast bytes) W.takes W.failed (head_in wanted.now.form) window.old.source window.new writer.old writer.new result }
+    ensures { GoesOver R.gives R.failed (λ number offset bytes used fate text. IsSavedIn wanted.now.letters wanted.now.form wanted.now.part number offset bytes used fate text) (λ bytes. ComesLast bytes) R.ended window.old.reads W.takes W.failed (head_in wanted.now.form) window.old.source window.new writer.old writer.new result }
 {
     let Ok(head) = wanted.form.head(alloc) else {
         return Err(Failure::Memory);
@@ -322,7 +322,8 @@ fn report_ended(rt: &HostRuntime, is_wanted: bool, ended: &Result<Totals, Failur
 ///
 /// # Errors
 ///
-/// The first failure of a stream, or want of memory; what was written before it stays written.
+/// The first failure of a stream, or want of memory; what was written before it stays written. If a read fails, all games that were read are written, except one
+/// that reaches the last byte.
 pub fn filter_saving<R: Source + Drop, W: Sink>(
     rt: &HostRuntime,
     alloc: Global,

@@ -7,6 +7,6 @@ use Rattle.arbiter.proofs.judge.judge.Goals as goal
 pub returns : goal.returns
 returns g c =
     subst
-    (λ head. GoesOver g.R.Source.gives g.R.Source.failed (λ number offset bytes used fate text. IsRowIn c.args.asked number offset bytes used fate text) g.R.Source.ended c.args.window.now.reads (λ bytes. ComesLast bytes) g.W.Sink.takes g.W.Sink.failed head c.args.window.now.source c.go_over.new.window
+    (λ head. GoesOver g.R.Source.gives g.R.Source.failed (λ number offset bytes used fate text. IsRowIn c.args.asked number offset bytes used fate text) (λ bytes. ComesLast bytes) g.R.Source.ended c.args.window.now.reads g.W.Sink.takes g.W.Sink.failed head c.args.window.now.source c.go_over.new.window
     c.args.writer.now c.go_over.new.writer c.go_over.result)
     c.header.ensures c.go_over.ensures

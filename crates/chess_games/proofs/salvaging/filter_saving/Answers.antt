@@ -9,11 +9,11 @@ pub returns : goal.returns
 returns g c = (
   c.save_all-ended.new.window,
   subst
-      (λ reads. GoesOver g.R.Source.gives g.R.Source.failed (λ number offset bytes used fate text. IsSavedIn c.args.wanted.letters c.args.wanted.form c.args.wanted.part number offset bytes used fate text) g.R.Source.ended reads (λ bytes. ComesLast bytes) g.W.Sink.takes g.W.Sink.failed
+      (λ reads. GoesOver g.R.Source.gives g.R.Source.failed (λ number offset bytes used fate text. IsSavedIn c.args.wanted.letters c.args.wanted.form c.args.wanted.part number offset bytes used fate text) (λ bytes. ComesLast bytes) g.R.Source.ended reads g.W.Sink.takes g.W.Sink.failed
       (head_in c.args.wanted.form) c.args.reader c.save_all-ended.new.window c.args.writer.now c.save_all-ended.new.writer c.save_all-ended.result)
       c.new-window.ensures.reads
       (subst
-      (λ source. GoesOver g.R.Source.gives g.R.Source.failed (λ number offset bytes used fate text. IsSavedIn c.args.wanted.letters c.args.wanted.form c.args.wanted.part number offset bytes used fate text) g.R.Source.ended c.new-window.result.reads (λ bytes. ComesLast bytes) g.W.Sink.takes g.W.Sink.failed
+      (λ source. GoesOver g.R.Source.gives g.R.Source.failed (λ number offset bytes used fate text. IsSavedIn c.args.wanted.letters c.args.wanted.form c.args.wanted.part number offset bytes used fate text) (λ bytes. ComesLast bytes) g.R.Source.ended c.new-window.result.reads g.W.Sink.takes g.W.Sink.failed
       (head_in c.args.wanted.form) source c.save_all-ended.new.window c.args.writer.now c.save_all-ended.new.writer c.save_all-ended.result)
       c.new-window.ensures.source c.save_all-ended.ensures),
 )
