@@ -10,9 +10,9 @@ use Rattle.chess_command_line.specs.declared.collection.Failure.TheVariants as b
 use Rattle.chess_collection.specs.declared.going.Totals.{Totals}
 use Rattle.chess_collection.specs.declared.handler.Fate.{Fate}
 use Rattle.chess_collection.specs.declared.handler.Fate.TheVariants.{Read, Lost, Left}
-use Rattle.chess_collection.specs.Handling.{GoesOver, Handles, IsCutShort, IsLeft, IsWritten, Reaches, ReachesOn, Stretch, Tiles, TilesLast, bad_in, bad_of, most_handled, passed_in, passed_of, written_of}
+use Rattle.chess_collection.specs.Handling.{GoesOver, Handles, IsCutShort, IsOpenEnd, IsSentWhole, Reaches, ReachesOn, Stretch, Tiles, TilesLast, bad_in, bad_of, most_handled, passed_in, passed_of, written_of}
 use Rattle.chess_collection.specs.steps.Going.{BreaksOff, ComesFew, Fills, FillsAll, Finishes, IsBroken, IsLast, IsSent, has_broken}
-use Rattle.chess_collection.specs.Windows.{AreFew, Comes, ComesSome, Fails, HasRun, IsLookedAt, IsWide, KnowsItsEnd, Loses, NoMore, StayFew, Window}
+use Rattle.chess_collection.specs.Windows.{AreFew, Comes, ComesSome, ReadEnds, HasRun, IsLookedAt, IsWide, KnowsItsEnd, Loses, NoMore, StayFew, Window}
 use Rattle.chess_collection.proofs.WindowLemmas.{comes_on, then_comes}
 
 -- ---- stretches
@@ -419,7 +419,7 @@ module _ {R W : Type 0} (gives : R → List ℕ → R → Type 0) (failed : R �
       offset = bytes;
       placed = came.placed;
       tiles = subst (λ (n : ℕ). TilesLast handles (suc n) bytes breaks.0.bytes late rest) came.counted (subst (λ (z : List ℕ). TilesLast handles (suc before) bytes z late rest) breaks.3 tiles);
-      stops = inr (subst (λ (x : R). Fails gives failed breaks.0 x) (sym same) breaks.4);
+      stops = inr (subst (λ (x : R). ReadEnds gives failed breaks.0 x) (sym same) breaks.4);
     }
 
     sent_on : (late : List Stretch) → IsSent handles takes write_failed page w late page1 w1 → IsSent handles takes write_failed page0 w0 (came.ss ++ late) page1 w1
@@ -435,10 +435,10 @@ module _ {R W : Type 0} (gives : R → List ℕ → R → Type 0) (failed : R �
     left_on : (late : List Stretch) (rest : List ℕ) → IsLast handles takes write_failed white before bytes mid.bytes late rest
         → IsCutShort gives failed handles white ended old.reads (came.ss ++ late) rest came.text breaks.0 new.source
     left_on late rest l = record {
-      fails = subst (λ (x : R). Fails gives failed breaks.0 x) (sym same) breaks.4;
+      fails = subst (λ (x : R). ReadEnds gives failed breaks.0 x) (sym same) breaks.4;
       offset = l.place;
       placed = (let x = l.placed in let y = came.placed in let z = ap length breaks.3 in omega (arith, x, y, z));
-      left = subst (λ (n : ℕ). IsLeft handles white n l.place rest) (let x = came.counted in let n = length-append came.ss late in let e : suc (before + length late) ≡ suc (length (came.ss ++ late)) = omega (arith, x, n) in e) l.left_so;
+      left = subst (λ (n : ℕ). IsOpenEnd handles white n l.place rest) (let x = came.counted in let n = length-append came.ss late in let e : suc (before + length late) ≡ suc (length (came.ss ++ late)) = omega (arith, x, n) in e) l.left_so;
     }
 
     pub finished : (failure : Failure) → Finishes handles takes write_failed white before bytes mid.bytes page w page1 w1 failure → Ends new page1 w1 (Err failure)
@@ -594,7 +594,7 @@ module _ {R W : Type 0} (gives : R → List ℕ → R → Type 0) (failed : R �
   part_breaks page page1 w1 w2 _ is sent f = absurd cc
 
   module _ (page page1 : List ℕ) (w1 w2 w3 : W) (sent : Sent takes write_failed w head page w1) where
-    written : (ss : List Stretch) → Sent takes write_failed w (head ++ written_of ss) [] w3 → IsWritten takes write_failed w (head ++ written_of ss) w3
+    written : (ss : List Stretch) → Sent takes write_failed w (head ++ written_of ss) [] w3 → IsSentWhole takes write_failed w (head ++ written_of ss) w3
     written ss out = (sent_whole takes write_failed w w3 (head ++ written_of ss) out, out.well)
 
     -- all that is gathered is written

@@ -4,7 +4,7 @@
 --   Tiles        stretches of some bytes, one after another, without a gap, each handled by its number and the number of bytes before it, as the bytes that are
 --                looked at where it begins say; and the bytes after them
 --   TilesLast    stretches of bytes after which none came, one after another, each handled as if the source had ended there, and each ends before the last byte
---   IsLeft       what is left of those: white, or a stretch of all of them, which bytes to come might have made longer
+--   IsOpenEnd       what is left of those: white, or a stretch of all of them, which bytes to come might have made longer
 --   written_of   what is written of stretches
 --   bad_in       how many games can't be read, and count; passed_in, how many bytes are passed over
 --   Reaches      bytes came from a source of which `reads` reads may be made, and stretches of them go up to what is at hand, whatever comes next; few bytes
@@ -12,8 +12,8 @@
 --   ReachesOn    stretches are reached; and where a read failed then, or there may be no more, so are stretches of what is at hand (`TilesLast`)
 --   HasTotals    how many stretches there are, and bytes of them and after them, and bytes that are passed over; and how many games can't be read, and count
 --   IsCutShort   nothing is lost of what was read: a read failed, or there may be no more, and what is left of all that came is no stretch that ends before its
---                last byte (`IsLeft`); or there were as many stretches as may be
---   IsWritten    a text is carried to a sink, whole and no more, and no call failed
+--                last byte (`IsOpenEnd`); or there were as many stretches as may be
+--   IsSentWhole    a text is carried to a sink, whole and no more, and no call failed
 --   GoesOver     how going over a collection ends: it has ended, and nothing but what the handler calls white comes after the stretches; or it is cut short, and
 --                what is written of all stretches is written; or there was no memory, and what is written of all before is written; or there was none to begin
 --                with; or a write failed, and a prefix of it is written
@@ -25,7 +25,7 @@ use Rattle.chess_command_line.specs.declared.collection.Failure.TheVariants as b
 use Rattle.chess_collection.specs.declared.going.Totals.{Totals}
 use Rattle.chess_collection.specs.declared.handler.Fate.{Fate}
 use Rattle.chess_collection.specs.declared.handler.Fate.TheVariants.{Read, Lost}
-use Rattle.chess_collection.specs.Windows.{AreFew, Fails, IsLookedAt, Loses, Window}
+use Rattle.chess_collection.specs.Windows.{AreFew, ReadEnds, IsLookedAt, Loses, Window}
 
 pub record Stretch : Type 0 where
   pub bytes : List ℕ
@@ -49,8 +49,8 @@ TilesLast handles number offset left [] rest = left ≡ rest
 TilesLast handles number offset left (s ∷ ss) rest =
     handles number offset left (length s.bytes) s.fate s.text × (after : List ℕ) × (left ≡ s.bytes ++ after) × (0 < length after) × TilesLast handles (suc number) (offset + length s.bytes) after ss rest
 
-abbrev pub IsLeft : Handles → (List ℕ → Type 0) → ℕ → ℕ → List ℕ → Type 0
-IsLeft handles white number offset rest = white rest ⊎ ((fate : Fate) × (text : List ℕ) × handles number offset rest (length rest) fate text)
+abbrev pub IsOpenEnd : Handles → (List ℕ → Type 0) → ℕ → ℕ → List ℕ → Type 0
+IsOpenEnd handles white number offset rest = white rest ⊎ ((fate : Fate) × (text : List ℕ) × handles number offset rest (length rest) fate text)
 
 abbrev pub written_of : List Stretch → List ℕ
 written_of [] = []
@@ -84,8 +84,8 @@ pub record HasTotals (ss : List Stretch) (rest text : List ℕ) (totals : Totals
   pub passed : totals.passed ≡ passed_in ss
   pub bad : totals.bad ≡ bad_in ss
 
-abbrev pub IsWritten : {W : Type 0} → (W → List ℕ → W → Type 0) → (W → Bool) → W → List ℕ → W → Type 0
-IsWritten takes failed old text new = Carries takes old text new × (failed new ≡ failed old)
+abbrev pub IsSentWhole : {W : Type 0} → (W → List ℕ → W → Type 0) → (W → Bool) → W → List ℕ → W → Type 0
+IsSentWhole takes failed old text new = Carries takes old text new × (failed new ≡ failed old)
 
 module _ {R : Type 0} (gives : R → List ℕ → R → Type 0) (failed : R → Bool) (handles : Handles) (white : List ℕ → Type 0) (ended : R → Type 0) (reads : ℕ) where
   pub record Reaches (source : R) (ss : List Stretch) (text : List ℕ) (now : Window R) : Type 0 where
@@ -107,13 +107,13 @@ module _ {R : Type 0} (gives : R → List ℕ → R → Type 0) (failed : R → 
     pub offset : ℕ
     pub placed : offset + length last.bytes ≡ length text
     pub tiles : TilesLast handles (suc (length first)) offset last.bytes late rest
-    pub stops : ((late ≡ []) × Loses gives failed last.source new) ⊎ Fails gives failed last new
+    pub stops : ((late ≡ []) × Loses gives failed last.source new) ⊎ ReadEnds gives failed last new
 
   pub record IsCutShort (ss : List Stretch) (rest text : List ℕ) (last : Window R) (new : R) : Type 0 where
-    pub fails : Fails gives failed last new
+    pub fails : ReadEnds gives failed last new
     pub offset : ℕ
     pub placed : offset + length rest ≡ length text
-    pub left : IsLeft handles white (suc (length ss)) offset rest
+    pub left : IsOpenEnd handles white (suc (length ss)) offset rest
 
   module _ {W : Type 0} (takes : W → List ℕ → W → Type 0) (write_failed : W → Bool) (head : List ℕ) where
     -- to the source's end
@@ -121,7 +121,7 @@ module _ {R : Type 0} (gives : R → List ℕ → R → Type 0) (failed : R → 
       pub ss : List Stretch
       pub text : List ℕ
       pub reaches : Reaches source ss text new
-      pub writes : IsWritten takes write_failed old (head ++ written_of ss) w
+      pub writes : IsSentWhole takes write_failed old (head ++ written_of ss) w
       pub ends : (new.has_ended ≡ true) × ended new.source
       pub rest : white new.bytes
       pub totals_are : HasTotals ss new.bytes text totals
@@ -129,9 +129,9 @@ module _ {R : Type 0} (gives : R → List ℕ → R → Type 0) (failed : R → 
     abbrev pub GoesOver : R → Window R → W → W → Result Totals Failure → Type 0
     GoesOver source new old w (Ok totals) = GoesOverAll source new old w totals
     GoesOver source new old w (Err by.Read) =
-        (ss : List Stretch) × (rest : List ℕ) × (some : ReachesOn source ss rest new.source) × IsWritten takes write_failed old (head ++ written_of ss) w
+        (ss : List Stretch) × (rest : List ℕ) × (some : ReachesOn source ss rest new.source) × IsSentWhole takes write_failed old (head ++ written_of ss) w
         × (IsCutShort ss rest some.text some.last new.source ⊎ (length ss ≡ most_handled))
     GoesOver source new old w (Err by.Write) =
         (ss : List Stretch) × (rest : List ℕ) × ReachesOn source ss rest new.source × Broken takes write_failed old (head ++ written_of ss) w
     GoesOver source new old w (Err by.Memory) =
-        ((ss : List Stretch) × (rest : List ℕ) × ReachesOn source ss rest new.source × IsWritten takes write_failed old (head ++ written_of ss) w) ⊎ ((new.source ≡ source) × (w ≡ old))
+        ((ss : List Stretch) × (rest : List ℕ) × ReachesOn source ss rest new.source × IsSentWhole takes write_failed old (head ++ written_of ss) w) ⊎ ((new.source ≡ source) × (w ≡ old))

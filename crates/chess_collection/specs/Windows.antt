@@ -3,7 +3,7 @@
 --            there may be
 --   KnowsItsEnd  the source has ended where its end was seen
 --   Comes    more bytes came, and are at hand after the others; no read failed, and none was made after the end was seen
---   Fails    the next read failed, or there may be no more
+--   ReadEnds    the next read failed, or there may be no more
 --   Loses    at most 65,536 bytes came, and there was no memory for them
 --   NoMore   bytes came, of which something holds, and then a read failed, or there may be no more, and all that came are at hand; or there was no memory
 --   IsWide   as many bytes are at hand as are looked at for a game, which are more than it may have; or all that are left
@@ -37,8 +37,8 @@ pub record Comes {R : Type 0} (gives : R → List ℕ → R → Type 0) (failed 
   pub still : old.has_ended ≡ true → (bytes ≡ []) × (new.has_ended ≡ true)
 
 -- as many were made as may be
-abbrev pub Fails : {R : Type 0} → (R → List ℕ → R → Type 0) → (R → Bool) → Window R → R → Type 0
-Fails gives failed last new = (gives last.source [] new × (failed new ≡ true)) ⊎ ((new ≡ last.source) × (last.reads ≡ 0))
+abbrev pub ReadEnds : {R : Type 0} → (R → List ℕ → R → Type 0) → (R → Bool) → Window R → R → Type 0
+ReadEnds gives failed last new = (gives last.source [] new × (failed new ≡ true)) ⊎ ((new ≡ last.source) × (last.reads ≡ 0))
 
 abbrev pub Loses : {R : Type 0} → (R → List ℕ → R → Type 0) → (R → Bool) → R → R → Type 0
 Loses gives failed last new = (lost : List ℕ) × Carries gives last lost new × (length lost ≤ 65536) × (failed new ≡ failed last)
@@ -50,7 +50,7 @@ pub record ComesSome {R : Type 0} (gives : R → List ℕ → R → Type 0) (fai
   pub so : holds last.bytes
 
 abbrev pub NoMore : {R : Type 0} → (R → List ℕ → R → Type 0) → (R → Bool) → (List ℕ → Type 0) → Window R → Window R → Failure → Type 0
-NoMore {R} gives failed holds old new by.Read = (last : Window R) × ComesSome gives failed holds old last × (new.bytes ≡ last.bytes) × Fails gives failed last new.source
+NoMore {R} gives failed holds old new by.Read = (last : Window R) × ComesSome gives failed holds old last × (new.bytes ≡ last.bytes) × ReadEnds gives failed last new.source
 NoMore gives failed holds old new by.Write = ⊥
 NoMore {R} gives failed holds old new by.Memory = (last : Window R) × ComesSome gives failed holds old last × Loses gives failed last.source new.source
 

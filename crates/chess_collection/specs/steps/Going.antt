@@ -10,8 +10,8 @@ use Rattle.chess_loop.specs.steps.Sending.{Sent}
 use Rattle.chess_command_line.specs.declared.collection.Failure.{Failure}
 use Rattle.chess_command_line.specs.declared.collection.Failure.TheVariants as by
 use Rattle.chess_collection.specs.declared.going.Totals.{Totals}
-use Rattle.chess_collection.specs.Handling.{Handles, HasTotals, IsCutShort, IsLeft, Reaches, ReachesOn, Stretch, TilesLast, most_handled, written_of}
-use Rattle.chess_collection.specs.Windows.{Comes, Fails, Loses, StayFew, Window}
+use Rattle.chess_collection.specs.Handling.{Handles, HasTotals, IsCutShort, IsOpenEnd, Reaches, ReachesOn, Stretch, TilesLast, most_handled, written_of}
+use Rattle.chess_collection.specs.Windows.{Comes, ReadEnds, Loses, StayFew, Window}
 
 module _ {R : Type 0} (gives : R → List ℕ → R → Type 0) (failed : R → Bool) (ended : R → Type 0) (white : List ℕ → Type 0) where
   -- bytes came, and few are at hand
@@ -21,14 +21,16 @@ module _ {R : Type 0} (gives : R → List ℕ → R → Type 0) (failed : R → 
     pub few : StayFew white old.bytes last.bytes
 
   abbrev pub BreaksOff : Window R → Window R → Failure → Type 0
-  BreaksOff old new by.Read = (last : Window R) × ComesFew old last × (last.has_ended ≡ false) × (new.bytes ≡ last.bytes) × Fails gives failed last new.source
+  BreaksOff old new by.Read = (last : Window R) × ComesFew old last × (last.has_ended ≡ false) × (new.bytes ≡ last.bytes) × ReadEnds gives failed last new.source
   BreaksOff old new by.Write = ⊥
   BreaksOff old new by.Memory = (last : Window R) × ComesFew old last × Loses gives failed last.source new.source
 
 module _ (handles : Handles) {W : Type 0} (takes : W → List ℕ → W → Type 0) (write_failed : W → Bool) where
+  -- what is written of stretches is sent
   abbrev pub IsSent : List ℕ → W → List Stretch → List ℕ → W → Type 0
   IsSent page w ss page1 w1 = (start : W) (head : List ℕ) → Sent takes write_failed start head page w → Sent takes write_failed start (head ++ written_of ss) page1 w1
 
+  -- sending it broke off
   abbrev pub IsBroken : List ℕ → W → List Stretch → W → Type 0
   IsBroken page w ss w1 = (start : W) (head : List ℕ) → Sent takes write_failed start head page w → Broken takes write_failed start (head ++ written_of ss) w1
 
@@ -38,7 +40,7 @@ module _ (handles : Handles) {W : Type 0} (takes : W → List ℕ → W → Type
     pub record IsLast (late : List Stretch) (rest : List ℕ) : Type 0 where
       pub place : ℕ
       pub placed : place + length rest ≡ offset + length left
-      pub left_so : IsLeft handles white (suc (before + length late)) place rest
+      pub left_so : IsOpenEnd handles white (suc (before + length late)) place rest
 
     abbrev pub Finishes : List ℕ → W → List ℕ → W → Failure → Type 0
     Finishes page w page1 w1 by.Read = (late : List Stretch) × (rest : List ℕ) × TilesLast handles (suc before) offset left late rest × IsSent page w late page1 w1 × (IsLast late rest ⊎ (before + length late ≡ most_handled))
