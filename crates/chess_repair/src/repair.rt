@@ -17,9 +17,9 @@ pub enum RepairKind {
     Colon,
     /// A pawn's move with a P.
     Pawn,
-    /// A man's letter that is small.
+    /// A man's letter that is small, at the beginning of a move.
     Small,
-    /// A file's letter that is large.
+    /// A file's letter that is large, at the beginning of a move and before a rank.
     Large,
     /// A promotion with another sign, or in parentheses.
     Promotion,
@@ -37,7 +37,7 @@ pub enum RepairKind {
     Number,
     /// An ellipsis of one character.
     Dots,
-    /// A space that isn't one of ASCII.
+    /// A space that isn't one of ASCII, or a byte order mark after the beginning of the text.
     Space,
     /// A control byte.
     Control,
@@ -55,13 +55,13 @@ pub enum RepairKind {
     Symbol,
     /// A comment within a comment: what comes after the inner one.
     Nested,
-    /// A comment without its right brace.
+    /// A comment without its right brace, or with an empty line and a tag before it: a brace at the text's end, or before that line.
     Comment,
-    /// A variation without its right parenthesis.
+    /// A variation without its right parenthesis: it is closed before the game's result, the next tag, or the text's end.
     Unclosed,
-    /// Text that belongs to no game.
+    /// Text that belongs to no game: none of its lines begins with a tag.
     Prose,
-    /// A FEN tag without its last fields, with castling rights by files, or without a position.
+    /// A FEN tag without its last fields, with castling rights by files, or with blanks and question marks for a value.
     Fen,
     /// Castling by the squares of king and rook.
     Squares,
