@@ -127,6 +127,9 @@ const WIDE: &[Row] = &[
     Does(Step(999_999)),
     Shows(Path(&[999_999])),
     Fails(TreeFault::NoSuch, Goto(&[1_000_000])),
+    // The number of the deleted node is taken: there is none for another.
+    Fails(TreeFault::Full, Add("e7e5")),
+    Shows(Path(&[999_999])),
 ];
 
 /// One node has a million children.
