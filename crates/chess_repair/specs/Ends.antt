@@ -1,10 +1,10 @@
--- Where an end that a text lacks may be put, and what of a text belongs to no game: each is said of what comes next in the text.
---   is_section    an empty line comes with the line feed here, and then a tag begins
---   ends_comment  the text ends here, or such a section comes: where a comment may be closed
+-- Ends that a text lacks, and text that belongs to no game. Each definition looks at the bytes that follow.
+--   is_section    a line feed, an empty line and the beginning of a tag follow
+--   ends_comment  the text ends here, or a section follows: a comment may be closed here
 --   ends_game     after whitespace the text ends, or a tag may begin
---   is_result     the marker of a game's end in any form, or nothing
---   EndsGame      a game ends here, after its result where it has one: where a variation may be closed
---   is_prose      no line of a text begins with a tag, together with what comes after the text
+--   is_result     the marker of a game's end in any form, or the empty text
+--   EndsGame      a game ends after its result or at once: a variation may be closed here
+--   is_prose      no line of a text begins with a tag; the last tag may end in the bytes that follow the text
 use Rattle.std.specs.Prelude.{◌≡◌, ℕ, Bool, true, false, ◌||◌, ◌&&◌, ◌==◌, not, List, [], ◌∷◌, ◌++◌, codes, bytes_eq}
 use Rattle.chess_items.specs.Items.{is_blank}
 use Rattle.chess_repair.specs.Runs.{past}

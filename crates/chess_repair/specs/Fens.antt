@@ -1,12 +1,12 @@
--- FEN tags whose value spells no position, and what is written for them.
---   fen_value     what comes after the first quotation mark of a FEN tag
---   next_word     the text from its next word on; a value's words end at whitespace, and at the next quotation mark, which ends the value
---   third         from the third word on, which has the castling rights
---   value_end     from the value's end on
---   missing_ends  the fields that a value lacks: of three words the target and both counters, of five the second counter
---   standard_rights  castling rights in the standard's letters: those of the corners' files, and those that are in them already
---   IsFen         the tag is left out if its value has only blanks and question marks; or the missing fields are added at the value's end; or the third word,
---                 which has a right by a file, has the same rights in the standard's letters; the other bytes stay
+-- FEN tags whose value spells no position, and the tags that are written for them.
+--   fen_value     the bytes after the first quotation mark of a FEN tag
+--   next_word     the text without its first word and the blanks after that; a word of a value ends at whitespace or at the next quotation mark
+--   third         the value without its first two words: its third word has the castling rights
+--   value_end     the text without the value: it begins with the second quotation mark
+--   missing_ends  the fields that a value lacks: if it has three words, the target and both counters; if it has five, the second counter
+--   standard_rights  the standard's letters for castling rights, which a field has by the files of the corners or in these letters
+--   IsFen         the tag is left out if its value has only blanks and question marks; or the missing fields are added at the value's end; or the third word
+--                 gets the standard's letters for the same rights. All other bytes are unchanged
 use Rattle.std.specs.Prelude.{◌≡◌, ◌⊎◌, ℕ, Bool, true, false, ◌||◌, ◌&&◌, ◌==◌, not, nat_le, if◌then◌else◌, List, [], ◌∷◌, ◌++◌, Option, Some, None, codes}
 use Rattle.std.specs.Str.{byte}
 use Rattle.std.specs.List.{list_all, list_any}

@@ -2,9 +2,9 @@
 --   are_letters   five different capital letters of ASCII
 --   IsOfLetters   a text has the letters of a language: the king's, the queen's, the rook's, the bishop's and the knight's
 --   standard      the standard's letter for a man's letter; another byte itself
---   after_byte    where the byte after one stands: among the moves, in a tag, in its value, or in a comment
+--   after_byte    the place of the next byte: among the moves, in a tag, in its value, or in a comment
 --   is_of_moves   a byte stands among the moves, and may be a letter of a man
---   IsRespelled   a text with letters of men written as the standard's: each byte is as it was, or stands among the moves and is the standard's letter for it
+--   IsRespelled   a text with letters of men written as the standard's: each byte is unchanged, or it stands among the moves and becomes the standard's letter
 --   IsInLetters   the same where letters of a language are given; else the text itself
 use Rattle.std.specs.Prelude.{◌≡◌, ◌⊎◌, ℕ, Bool, true, false, ◌&&◌, ◌==◌, not, nat_le, if◌then◌else◌, List, [], ◌∷◌, length, Option, Some, None, ⊤}
 use Rattle.std.specs.Str.{byte}
@@ -34,7 +34,7 @@ standard l b =
     if b == l.king then byte "K"
     else (if b == l.queen then byte "Q" else (if b == l.rook then byte "R" else (if b == l.bishop then byte "B" else (if b == l.knight then byte "N" else b))))
 
--- ---- where a byte stands
+-- ---- the place of a byte
 
 -- [ begins a tag, { a comment up to its right brace, ; one up to the end of its line (PGN 5)
 abbrev pub after_move_byte : ℕ → Standing

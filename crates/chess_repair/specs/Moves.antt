@@ -1,10 +1,10 @@
--- The text of a move, as it is read for what it says.
---   mark         what a byte says between its neighbours: a man's capital letter, a file's small letter, a rank's digit, O for a circle of castling, = and a capital
---                letter for the man that a pawn becomes, + or #; a sign between the parts of a move says nothing
---   said         what all bytes say, one after the other
---   meant        the text as a kind of repair takes it: the P of a pawn is left out, a man's small letter is large, a file's large letter before a rank is small;
---                only the first byte, and for one kind each
---   IsMove       a text says what another means
+-- The meaning of a move's text.
+--   mark         the meaning of a byte between its neighbours: a man's capital letter, a file's small letter, a rank's digit, O for a circle of castling, = and a
+--                capital letter for the man that a pawn becomes, + or #; a sign between the parts of a move has no meaning
+--   said         the meaning of all bytes, one after the other
+--   meant        the text as a kind of repair reads it: it drops the P of a pawn, makes a man's small letter large, or makes a file's large letter before a rank
+--                small; each kind does one of these, and only at the first byte
+--   IsMove       the first text, as a kind of repair reads it, has the meaning of the second
 use Rattle.std.specs.Prelude.{◌≡◌, ℕ, Bool, false, ◌||◌, ◌&&◌, ◌==◌, not, nat_le, ◌+◌, ◌-◌, if◌then◌else◌, List, [], ◌∷◌, ◌++◌}
 use Rattle.std.specs.Str.{byte}
 use Rattle.chess_repair.specs.declared.repair.RepairKind.{RepairKind}
@@ -40,7 +40,7 @@ abbrev pub has_rank_next : List ℕ → Bool
 has_rank_next [] = false
 has_rank_next (b ∷ more) = is_rank b
 
--- a man's letter with a rank after it is that of a file, as in Ra8b8
+-- (in Ra8b8 the letter b comes before a rank: it is a file)
 abbrev pub mark : ℕ → ℕ → List ℕ → List ℕ
 mark before b more =
     if (is_piece b && ends_square before) && not (has_rank_next more) then byte "=" ∷ capital b ∷ []

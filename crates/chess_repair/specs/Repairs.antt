@@ -1,7 +1,7 @@
 -- Texts that are written anew, so that they may be read.
 --   quoted     a text as a comment, after a head
 --   IsRepair   what may be written for some bytes, by the kind of the repair
---   IsRepairBefore  what may be, by what comes after those bytes: an end that is put in, and text that belongs to no game
+--   IsRepairBefore  the same for kinds that depend on the bytes that follow: an end that is put in, and text that belongs to no game
 --   MayStand   the one or the other
 --   padded     what is written for them: between two spaces, but within a word, and at the end
 --   Rewrites   a text is written anew up to what is left of it: the repairs, in order, with their places and lengths; all bytes between them are as they were
@@ -61,7 +61,7 @@ IsRepair k.Prose was now = ⊥
 IsRepair k.Fen was now = IsFen was now
 IsRepair k.Squares was now = castling_of was ≡ Some now
 
--- these are said of what the text goes on with
+-- the text goes on with the bytes `others`
 abbrev pub IsRepairBefore : RepairKind → List ℕ → List ℕ → List ℕ → Type 0
 IsRepairBefore k.Comment was now others = (was ≡ []) × (now ≡ codes "}") × (ends_comment others ≡ true)
 IsRepairBefore k.Unclosed was now others = (was ≡ []) × (now ≡ 10 ∷ codes ")") × EndsGame others

@@ -1,7 +1,7 @@
 -- Texts from some byte on.
 --   past       the text without the bytes at its beginning that pass a test
 --   past_end   the text without those at its end
---   has_first  its first byte passes; not where there is none
+--   has_first  the text has a first byte, and it passes
 use Rattle.std.specs.Prelude.{ℕ, Bool, false, if◌then◌else◌, List, [], ◌∷◌, reverse}
 
 abbrev pub past : (ℕ → Bool) → List ℕ → List ℕ

@@ -1,13 +1,14 @@
--- Tags that strict reading refuses, and the tags that are meant.
---   begins_tag      a tag begins here: a left bracket, a name and a quotation mark, with blanks between them or not
+-- Tags that strict reading refuses, and the tags that they mean.
+--   begins_tag      a tag begins here: a left bracket, a name and a quotation mark, perhaps with blanks between them
 --   opens_tag       a tag may begin here: a left bracket and a byte of a name
---   after_quote     what comes after the first quotation mark
---   name_in         the tag's name: the bytes of names, and those beyond ASCII, before the first quotation mark; where there is none, those of names before a blank
---   rough_value     what comes after that mark, or that name
---   value_in        the value: that text without a right bracket at its end, then without blanks and quotation marks there, and without blanks at its beginning
---   escaped         a value with a backslash before each quotation mark and backslash, except before and after one that escapes already (PGN 7)
+--   after_quote     the bytes after the first quotation mark
+--   name_in         the tag's name: the bytes of names, and those beyond ASCII, before the first quotation mark; if there is no such mark, the bytes of names
+--                   before the first blank
+--   rough_value     the bytes after that mark, or after that name
+--   value_in        the value: these bytes, trimmed of one right bracket at the end, of blanks and quotation marks at the end, and of blanks at the beginning
+--   escaped         a value with a backslash before each quotation mark and backslash that isn't escaped and doesn't escape (PGN 7)
 --   tag_text        a tag as the standard has it (PGN 8.1.1)
---   IsTag           the tag that is meant by a text on one line, which begins with a left bracket: this name, and this value
+--   IsTag           a text on one line that begins with a left bracket means this tag: it has the name and the value of the text
 use Rattle.std.specs.Prelude.{◌≡◌, ℕ, Bool, true, false, ◌||◌, ◌&&◌, ◌==◌, nat_le, if◌then◌else◌, List, [], ◌∷◌, ◌++◌, reverse, Option, Some, None, codes}
 use Rattle.std.specs.Str.{byte}
 use Rattle.std.specs.List.{list_all}
@@ -24,7 +25,7 @@ is_bracket b = b == byte "]"
 unfoldable pub is_kept : ℕ → Bool
 is_kept b = is_name_byte b || nat_le 128 b
 
--- what a value doesn't end with
+-- a byte that is trimmed from the end of a value
 unfoldable pub is_edge : ℕ → Bool
 is_edge b = is_blank b || is_quote b
 

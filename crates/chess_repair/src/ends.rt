@@ -1,4 +1,4 @@
-//! Where an end that a text lacks may be put, and what of a text belongs to no game.
+//! Ends that a text lacks, and text that belongs to no game.
 
 ghost use Rattle.std.specs.Prelude.{◌≡◌, ◌++◌, true};
 ghost use Rattle.chess_repair.specs.Ends.{ends_comment, ends_game, ends_here, has_feed, is_prose, is_result, is_section};
@@ -78,7 +78,7 @@ pub fn is_result(word: &[u8]) -> bool
         || is_loss(word)
 }
 
-/// Whether no line of a text begins with a tag, where these come after it: all are the text and those.
+/// Whether no line of a text begins with a tag. The other bytes follow it, and `all` is both.
 pub fn is_prose(text: &[u8], others: &[u8], all: &[u8]) -> bool
     requires { all.now ≡ text.now ++ others.now }
     ensures { result ≡ true → is_prose true text.now others.now ≡ true }

@@ -209,7 +209,7 @@ impl<'t, 'a, A: Allocator> Pen<'t, 'a, A> {
         Ok(())
     }
 
-    /// Leaves out the next bytes, if no line of theirs begins with a tag.
+    /// Leaves out the next bytes, if none of their lines begins with a tag.
     pub fn pass_over(&mut self, len: usize) -> Result<(), AllocError>
         ensures { self.new ≡ self.old }
     {

@@ -34,7 +34,7 @@ pub fn past_name(text: &[u8]) -> &[u8]
     rest
 }
 
-/// What comes before a text that another ends with; nothing where it doesn't.
+/// The front of a text that ends with the given bytes; `None` if it doesn't end with them.
 pub fn before<'t>(text: &'t [u8], rest: &[u8]) -> Option<&'t [u8]>
     ensures { IfSome result (λ front. text.now ≡ front.now ++ rest.now) }
 {

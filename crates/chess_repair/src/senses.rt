@@ -1,4 +1,4 @@
-//! What the text of a move says, and whether a text says what another means.
+//! The meaning of a move's text, and the comparison of two such texts.
 
 ghost use Rattle.std.specs.Prelude.{◌≡◌, ◌++◌, true, IfSome};
 ghost use Rattle.chess_repair.specs.Moves.{IsMove, capital, ends_square, first_meant, has_rank_next, is_circle, is_large, is_piece, is_rank, is_sign, is_small, mark, meant, said, small};
@@ -22,7 +22,7 @@ pub fn is_piece(b: u8) -> bool
     matches!(b, b'Q' | b'R' | b'B' | b'N' | b'q' | b'r' | b'b' | b'n')
 }
 
-/// What comes before the man of a promotion: its square's rank, or a sign.
+/// A byte that may come before the man of a promotion: the rank of its square, or a sign.
 #[tactic(auto, unfolding(crate::specs::Moves::ends_square))]
 pub fn ends_square(b: u8) -> bool
     ensures { result ≡ ends_square b }
@@ -92,10 +92,10 @@ fn has_rank_next(more: &[u8]) -> bool
     }
 }
 
-/// What the text of a move says.
+/// The meaning of a move's text.
 type Marks = ArrayVec<u8, 32>;
 
-// Adds what a byte of a move says between its neighbours.
+// Adds the meaning of a byte between its neighbours.
 fn push_mark(marks: &mut Marks, before: u8, b: u8, more: &[u8]) -> Option<()>
     ensures { IfSome result (λ _. marks.new.items ≡ marks.old.items ++ mark before b more.now) }
 {
@@ -111,7 +111,7 @@ fn push_mark(marks: &mut Marks, before: u8, b: u8, more: &[u8]) -> Option<()>
     }
 }
 
-// What the text of a move says; nothing for a text that is too long.
+// The meaning of a move's text; `None` if the text is too long.
 fn said(text: &[u8]) -> Option<Marks>
     ensures { IfSome result (λ marks. marks.items ≡ said text.now) }
 {
@@ -126,7 +126,7 @@ fn said(text: &[u8]) -> Option<Marks>
     Some(marks)
 }
 
-// Adds what the first byte of a move means where it is mended so.
+// Adds the first byte of a move as a kind of repair reads it.
 fn push_first(text: &mut Marks, kind: RepairKind, b: u8, more: &[u8]) -> Option<()>
     ensures { IfSome result (λ _. text.new.items ≡ text.old.items ++ first_meant kind b more.now) }
 {
@@ -138,7 +138,7 @@ fn push_first(text: &mut Marks, kind: RepairKind, b: u8, more: &[u8]) -> Option<
     }
 }
 
-// The text that is meant by a move that is mended so.
+// The text of a move as a kind of repair reads it.
 fn meant(kind: RepairKind, word: &[u8]) -> Option<Marks>
     ensures { IfSome result (λ text. text.items ≡ meant kind word.now) }
 {
@@ -150,7 +150,7 @@ fn meant(kind: RepairKind, word: &[u8]) -> Option<Marks>
     Some(text)
 }
 
-/// Whether a text surely says what a word means where it is mended so.
+/// Whether a text surely has the meaning of a word, which a kind of repair reads.
 pub fn says_the_same(kind: RepairKind, word: &[u8], text: &[u8]) -> bool
     ensures { result ≡ true → IsMove kind word.now text.now }
 {

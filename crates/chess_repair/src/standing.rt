@@ -1,9 +1,9 @@
-//! Where a byte of a game's text stands: among its moves, in a tag, or in a comment.
+//! The place of a byte in a game's text: among its moves, in a tag, or in a comment.
 
 ghost use Rattle.std.specs.Prelude.{◌≡◌};
 ghost use Rattle.chess_repair.specs.Letters.{after_byte, after_move_byte, is_of_moves};
 
-/// Where a byte of a game's text stands.
+/// The place of a byte in a game's text.
 #[derive(Clone, Copy, PartialEq, Eq)]
 pub enum Standing {
     /// Among the moves, in the first column.
@@ -24,7 +24,7 @@ pub enum Standing {
     Rest,
 }
 
-// Where the byte after one among the moves stands.
+// The place after a byte among the moves.
 fn after_move_byte(b: u8) -> Standing
     ensures { result ≡ after_move_byte b }
 {
@@ -38,7 +38,7 @@ fn after_move_byte(b: u8) -> Standing
 }
 
 impl Standing {
-    /// Where the byte after one that stands here stands.
+    /// The place after a byte that stands here.
     pub fn after_byte(self, b: u8) -> Standing
         ensures { result ≡ after_byte self b }
     {
