@@ -10,9 +10,6 @@ use crate::marks::{after, blanks, is_blank, is_name, last_of, len_to, name_len, 
 use crate::runs::{past_blanks, past_name};
 use std::alloc::{AllocError, Allocator};
 
-/// The most bytes of a line that are looked at for the end of its tag.
-const LINE: usize = 4_096;
-
 /// A quotation mark.
 #[tactic(auto, unfolding(crate::specs::Tags::is_quote))]
 pub fn is_quote(b: u8) -> bool
@@ -166,14 +163,25 @@ struct Extent {
     fault: TagFault,
 }
 
-// Where a value ends whose quotation marks are bare: before the first mark that isn't escaped and has a right bracket after it. How many bytes come before
-// it, and how many with the bracket.
+// How many blank bytes there are at the beginning, on the same line.
+fn blanks_in_line(bytes: &[u8]) -> usize {
+    bytes
+        .iter()
+        .take_while(|b| is_blank(**b) && **b != b'\n')
+        .count()
+}
+
+// The first mark on the line that is a quotation mark and not escaped, with a right bracket after it: it ends a value whose quotation marks are bare. How many
+// bytes come before it, and how many with the bracket.
 fn first_end(value: &[u8]) -> Option<(usize, usize)> {
     let mut is_escaped = false;
     for at in 0..value.len() {
+        if value[at] == b'\n' {
+            return None;
+        }
         if value[at] == b'"' && !is_escaped {
             let more = &value[at + 1..];
-            if let [b']', tail @ ..] = after(more, blanks(more)) {
+            if let [b']', tail @ ..] = after(more, blanks_in_line(more)) {
                 return Some((at, value.len().saturating_sub(tail.len())));
             }
         }
@@ -182,25 +190,28 @@ fn first_end(value: &[u8]) -> Option<(usize, usize)> {
     None
 }
 
-// A tag without quotation marks, on a line of its own.
-fn unquoted(line: &[u8]) -> Option<Extent> {
-    let [b'[', inner @ ..] = line else {
+// A tag without quotation marks, on one line.
+fn unquoted(text: &[u8]) -> Option<Extent> {
+    let [b'[', inner @ ..] = text else {
         return None;
     };
-    let start = after(inner, blanks(inner));
+    let start = after(inner, blanks_in_line(inner));
     let (name, more) = start.split_at(name_len(start).min(start.len()));
-    let value = after(more, blanks(more));
-    if name.is_empty() || blanks(more) == 0 {
+    let value = after(more, blanks_in_line(more));
+    if name.is_empty() || blanks_in_line(more) == 0 {
         return None;
     }
-    let (value, tail) = value.split_at(len_to(b']', value).min(value.len()));
-    if tail.is_empty() || value.iter().any(|b| matches!(*b, b'[' | b'{' | b'}')) {
-        return None;
+    let len = value
+        .iter()
+        .take_while(|b| !matches!(**b, b'[' | b']' | b'{' | b'}' | b'\n'))
+        .count();
+    match after(value, len) {
+        [b']', rest @ ..] => Some(Extent {
+            length: text.len().saturating_sub(rest.len()),
+            fault: TagFault::Quotes,
+        }),
+        _ => None,
     }
-    Some(Extent {
-        length: line.len().saturating_sub(tail.len()).saturating_add(1),
-        fault: TagFault::Quotes,
-    })
 }
 
 // A tag whose value isn't closed by a quotation mark before a right bracket: how many bytes its value has with what closes it.
@@ -214,19 +225,18 @@ fn rough_end(value: &[u8]) -> (usize, TagFault) {
     }
 }
 
-// A tag with quotation marks: its name is what comes before the first, which is after `quote` bytes. Of a line that goes on, nothing where its end isn't found.
-fn quoted(line: &[u8], quote: usize, goes_on: bool) -> Option<Extent> {
-    let (head, more) = line.split_at(quote.min(line.len()));
+// A tag with quotation marks: its name comes before the first, which is after `quote` bytes.
+fn quoted(text: &[u8], quote: usize) -> Option<Extent> {
+    let (head, more) = text.split_at(quote.min(text.len()));
     let name = after(head, 1);
     let value = after(more, 1);
-    if !name.iter().any(|b| is_name(*b)) || name.iter().any(|b| matches!(*b, b'[' | b']' | 128..)) {
+    if !name.iter().any(|b| is_name(*b)) || name.iter().any(|b| 128 <= *b) {
         return None;
     }
     let (end, fault) = match first_end(value) {
         Some((len, end)) if value_len(value) == Some(len) => (end, TagFault::Name),
         Some((_, end)) => (end, TagFault::Quotes),
-        None if goes_on => return None,
-        None => rough_end(value),
+        None => rough_end(without_blanks(&value[..len_to(b'\n', value).min(value.len())])),
     };
     Some(Extent {
         length: quote.saturating_add(1).saturating_add(end),
@@ -396,14 +406,17 @@ fn are_in_line(text: &[u8]) -> bool
     text.iter().all(|b| *b != b'\n')
 }
 
-// The start of a text up to the end of its line, without blanks there; and whether the line goes on after it.
-fn line_of(text: &[u8]) -> (&[u8], bool) {
-    let first = &text[..text.len().min(LINE)];
-    let len = len_to(b'\n', first);
-    (
-        without_blanks(&first[..len.min(first.len())]),
-        len == first.len() && first.len() < text.len(),
-    )
+// How many bytes a tag has at the start of a text that strict reading refuses. Each call looks at as many bytes as the tag has, or at the rest of its line.
+fn extent_of(text: &[u8]) -> Option<Extent> {
+    let len = after(text, 1)
+        .iter()
+        .take_while(|b| !matches!(**b, b'"' | b'[' | b']' | b'\n'))
+        .count()
+        .saturating_add(1);
+    match after(text, len) {
+        [b'"', ..] => quoted(text, len),
+        _ => unquoted(text),
+    }
 }
 
 /// The tag that is meant at the start of a text where strict reading takes none; nothing where none is meant.
@@ -413,17 +426,10 @@ pub fn mend_tag<'t, 'a, A: Allocator>(
 ) -> Result<Option<MendedTag<'t, 'a, A>>, AllocError>
     ensures { IfOk result (λ found. IfSome found (λ tag. IsTag tag.was.now tag.text.items)) }
 {
-    let (line, goes_on) = line_of(text);
-    let quote = len_to(b'"', line);
-    let extent = if quote < line.len() {
-        quoted(line, quote, goes_on)
-    } else {
-        unquoted(line)
-    };
-    let Some(Extent { length, fault }) = extent else {
+    let Some(Extent { length, fault }) = extent_of(text) else {
         return Ok(None);
     };
-    let was = &line[..length.min(line.len())];
+    let was = &text[..length.min(text.len())];
     if !is_rough_tag(was) {
         return Ok(None);
     }
