@@ -1,6 +1,6 @@
 //! The texts of moves: the forms that strict reading takes, and a text with the same man and squares in such a form.
 
-ghost use Rattle.std.specs.Prelude.{◌≡◌, IfSome, List, ℕ};
+ghost use Rattle.std.specs.Prelude.{IfSome, List, ℕ};
 ghost use Rattle.chess_repair.specs.Moves.{IsMove};
 ghost use Rattle.chess_repair.specs.Repairs.{IsRepair};
 

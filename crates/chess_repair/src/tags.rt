@@ -1,9 +1,9 @@
 //! Tags that can be read, and tags that are mended.
 
-ghost use Rattle.std.specs.Prelude.{◌≡◌, ◌∷◌, ◌++◌, [], None, Some, false, IfOk, IfSome};
+ghost use Rattle.std.specs.Prelude.{◌≡◌, ◌++◌, None, Some, false, IfOk, IfSome};
 ghost use Rattle.std.specs.List.{list_all};
-ghost use Rattle.chess_items.specs.Items.{in_line, is_name_byte};
-ghost use Rattle.chess_repair.specs.Runs.{has_first, past_end};
+ghost use Rattle.chess_items.specs.Items.{in_line};
+ghost use Rattle.chess_repair.specs.Runs.{past_end};
 ghost use Rattle.chess_repair.specs.Tags.{IsTag, after_bracket, after_quote, begins_tag, escaped, escapes, first_name, has_name, is_bracket, is_edge, is_escapable, is_kept, is_quote, is_rough_tag, name_before_quote, name_in, opens_tag, rough_value, tag_text, unclosed, value_in};
 
 use crate::marks::{after, blanks, is_blank, is_name, last_of, len_to, name_len, without_blanks};
