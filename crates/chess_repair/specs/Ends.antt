@@ -24,6 +24,7 @@ abbrev pub ends_comment : List ℕ → Bool
 ends_comment [] = true
 ends_comment (b ∷ bs) = is_section (b ∷ bs)
 
+-- the text ends, or a tag may begin
 abbrev pub ends_here : List ℕ → Bool
 ends_here [] = true
 ends_here (b ∷ bs) = opens_tag (b ∷ bs)

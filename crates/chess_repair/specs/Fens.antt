@@ -16,10 +16,12 @@ use Rattle.chess_repair.specs.Tags.{is_quote}
 
 -- ---- the value
 
+-- after a quotation mark
 abbrev pub quoted_value : List ℕ → Option (List ℕ)
 quoted_value [] = None
 quoted_value (b ∷ value) = if is_quote b then Some value else None
 
+-- after the name FEN and a quotation mark
 abbrev pub after_fen : List ℕ → Option (List ℕ)
 after_fen (f ∷ e ∷ n ∷ more) = if (f == byte "F" && e == byte "E") && n == byte "N" then quoted_value (past is_blank more) else None
 after_fen _ = None
@@ -28,9 +30,11 @@ abbrev pub fen_value : List ℕ → Option (List ℕ)
 fen_value [] = None
 fen_value (b ∷ more) = if b == byte "[" then after_fen (past is_blank more) else None
 
+-- a byte of a word
 unfoldable pub in_word : ℕ → Bool
 in_word b = not (is_blank b || is_quote b)
 
+-- a byte of the value
 unfoldable pub in_value : ℕ → Bool
 in_value b = not (is_quote b)
 
@@ -68,30 +72,36 @@ unfoldable pub is_right : ℕ → Bool
 is_right b =
     (nat_le (byte "A") b && nat_le b (byte "H")) || (nat_le (byte "a") b && nat_le b (byte "h")) || b == byte "K" || b == byte "Q" || b == byte "k" || b == byte "q"
 
+-- a right, if the field has it
 abbrev pub if_right : List ℕ → ℕ → List ℕ
 if_right field wanted = if list_any (λ b. right b == wanted) field then wanted ∷ [] else []
 
-abbrev pub or_none : List ℕ → List ℕ
-or_none [] = codes "-"
-or_none (b ∷ bs) = b ∷ bs
+-- the sign of no right at all
+abbrev pub or_dash : List ℕ → List ℕ
+or_dash [] = codes "-"
+or_dash (b ∷ bs) = b ∷ bs
 
 abbrev pub standard_rights : List ℕ → List ℕ
 standard_rights field =
-    or_none (if_right field (byte "K") ++ (if_right field (byte "Q") ++ (if_right field (byte "k") ++ if_right field (byte "q"))))
+    or_dash (if_right field (byte "K") ++ (if_right field (byte "Q") ++ (if_right field (byte "k") ++ if_right field (byte "q"))))
 
 -- ---- what is written
 
+-- the value has no position
 abbrev pub IsLeftOut : List ℕ → List ℕ → Type 0
 IsLeftOut value now = (has_first in_value (past says_none value) ≡ false) × (now ≡ [])
 
+-- fields are added at the value's end
 abbrev pub IsLonger : List ℕ → List ℕ → List ℕ → Type 0
 IsLonger was value now = (more before : List ℕ) × (missing_ends (third value) ≡ Some more) × (was ≡ before ++ value_end value) × (now ≡ before ++ (more ++ value_end value))
 
+-- the third word has the same rights in the standard's letters
 abbrev pub IsRighted : List ℕ → List ℕ → List ℕ → Type 0
 IsRighted was value now =
     (before field : List ℕ) × (was ≡ before ++ third value) × (third value ≡ field ++ past in_word (third value)) × (list_all is_right field ≡ true) × (field ≡ [] → ⊥)
     × (now ≡ before ++ (standard_rights field ++ past in_word (third value)))
 
+-- a FEN tag has a value, and one of these is written
 abbrev pub IsFenOf : Option (List ℕ) → List ℕ → List ℕ → Type 0
 IsFenOf None was now = ⊥
 IsFenOf (Some value) was now = IsLeftOut value now ⊎ (IsLonger was value now ⊎ IsRighted was value now)

@@ -58,9 +58,11 @@ is_of_moves _ = false
 
 -- ---- a text that is respelled
 
+-- a byte at a place
 abbrev pub IsSpeltAs : Letters → Standing → ℕ → ℕ → Type 0
 IsSpeltAs l standing was now = (now ≡ was) ⊎ ((is_of_moves standing ≡ true) × (now ≡ standard l was))
 
+-- a text from a place on
 abbrev pub IsRespelledAfter : Letters → Standing → List ℕ → List ℕ → Type 0
 IsRespelledAfter l standing [] [] = ⊤
 IsRespelledAfter l standing [] (now ∷ spelt) = ⊥

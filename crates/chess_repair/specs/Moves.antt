@@ -1,7 +1,7 @@
 -- The meaning of a move's text.
---   mark         the meaning of a byte between its neighbours: a man's capital letter, a file's small letter, a rank's digit, O for a circle of castling, = and a
+--   byte_marks   the meaning of a byte between its neighbours: a man's capital letter, a file's small letter, a rank's digit, O for a circle of castling, = and a
 --                capital letter for the man that a pawn becomes, + or #; a sign between the parts of a move has no meaning
---   said         the meaning of all bytes, one after the other
+--   move_marks   the meaning of all bytes, one after the other
 --   meant        the text as a kind of repair reads it: it drops the P of a pawn, makes a man's small letter large, or makes a file's large letter before a rank
 --                small; each kind does one of these, and only at the first byte
 --   IsMove       the first text, as a kind of repair reads it, has the meaning of the second
@@ -30,29 +30,33 @@ is_sign b = b == byte "-" || b == byte ":" || b == byte "x" || b == byte "=" || 
 unfoldable pub is_circle : ℕ → Bool
 is_circle b = b == byte "O" || b == byte "o" || b == byte "0"
 
+-- the large letter for a small one
 unfoldable pub capital : ℕ → ℕ
 capital b = if nat_le (byte "a") b && nat_le b (byte "z") then b - 32 else b
 
+-- the small letter for a large one
 unfoldable pub small : ℕ → ℕ
 small b = if nat_le (byte "A") b && nat_le b (byte "Z") then b + 32 else b
 
+-- the next byte is a rank's digit
 abbrev pub has_rank_next : List ℕ → Bool
 has_rank_next [] = false
 has_rank_next (b ∷ more) = is_rank b
 
 -- (in Ra8b8 the letter b comes before a rank: it is a file)
-abbrev pub mark : ℕ → ℕ → List ℕ → List ℕ
-mark before b more =
+abbrev pub byte_marks : ℕ → ℕ → List ℕ → List ℕ
+byte_marks before b more =
     if (is_piece b && ends_square before) && not (has_rank_next more) then byte "=" ∷ capital b ∷ []
     else (if is_sign b then [] else (if is_circle b then byte "O" ∷ [] else b ∷ []))
 
-abbrev pub said_after : ℕ → List ℕ → List ℕ
-said_after before [] = []
-said_after before (b ∷ more) = mark before b more ++ said_after b more
+-- the meaning of the bytes after one
+abbrev pub marks_after : ℕ → List ℕ → List ℕ
+marks_after before [] = []
+marks_after before (b ∷ more) = byte_marks before b more ++ marks_after b more
 
 -- (no byte comes before the first)
-abbrev pub said : List ℕ → List ℕ
-said text = said_after 0 text
+abbrev pub move_marks : List ℕ → List ℕ
+move_marks text = marks_after 0 text
 
 -- a man's letter that is small; b is a file's
 unfoldable pub is_small : ℕ → Bool
@@ -62,6 +66,7 @@ is_small b = b == byte "n" || b == byte "r" || b == byte "q" || b == byte "k"
 unfoldable pub is_large : ℕ → Bool
 is_large b = b == byte "A" || (nat_le (byte "C") b && nat_le b (byte "H"))
 
+-- the first byte as a kind of repair reads it, before the other bytes
 abbrev pub first_meant : RepairKind → ℕ → List ℕ → List ℕ
 first_meant k.Pawn b more = if b == byte "P" then [] else b ∷ []
 first_meant k.Small b more = if is_small b then capital b ∷ [] else b ∷ []
@@ -73,4 +78,4 @@ meant kind [] = []
 meant kind (b ∷ more) = first_meant kind b more ++ more
 
 abbrev pub IsMove : RepairKind → List ℕ → List ℕ → Type 0
-IsMove kind was now = said (meant kind was) ≡ said now
+IsMove kind was now = move_marks (meant kind was) ≡ move_marks now

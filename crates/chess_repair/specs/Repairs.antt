@@ -12,7 +12,7 @@ use Rattle.chess_repair.specs.Words.{castling_of, is_said, quiet, result_of, sig
 use Rattle.chess_repair.specs.Ends.{EndsGame, ends_comment, is_prose}
 use Rattle.chess_repair.specs.Fens.{IsFen}
 use Rattle.chess_repair.specs.Moves.{IsMove}
-use Rattle.chess_repair.specs.Tags.{IsTag}
+use Rattle.chess_repair.specs.Tags.{IsTagMeant}
 use Rattle.chess_repair.specs.declared.repair.Repair.{Repair}
 use Rattle.chess_repair.specs.declared.repair.RepairKind.{RepairKind}
 use Rattle.chess_repair.specs.declared.repair.RepairKind.TheVariants as k
@@ -25,9 +25,9 @@ abbrev pub SaysNothing : List ℕ → Type 0
 SaysNothing was = list_all (λ b. not (is_name_byte b)) was ≡ true
 
 abbrev pub IsRepair : RepairKind → List ℕ → List ℕ → Type 0
-IsRepair k.TagQuotes was now = IsTag was now
-IsRepair k.TagBracket was now = IsTag was now
-IsRepair k.TagName was now = IsTag was now
+IsRepair k.TagQuotes was now = IsTagMeant was now
+IsRepair k.TagBracket was now = IsTagMeant was now
+IsRepair k.TagName was now = IsTagMeant was now
 IsRepair k.Castling was now = IsMove k.Castling was now
 IsRepair k.Hyphen was now = IsMove k.Hyphen was now
 IsRepair k.Colon was now = IsMove k.Colon was now

@@ -1,7 +1,7 @@
 //! The meaning of a move's text, and the comparison of two such texts.
 
 ghost use Rattle.std.specs.Prelude.{◌≡◌, ◌++◌, true, IfSome};
-ghost use Rattle.chess_repair.specs.Moves.{IsMove, capital, ends_square, first_meant, has_rank_next, is_circle, is_large, is_piece, is_rank, is_sign, is_small, mark, meant, said, small};
+ghost use Rattle.chess_repair.specs.Moves.{IsMove, capital, ends_square, first_meant, has_rank_next, is_circle, is_large, is_piece, is_rank, is_sign, is_small, byte_marks, meant, move_marks, small};
 
 use crate::repair::RepairKind;
 use arrayvec::ArrayVec;
@@ -97,7 +97,7 @@ type Marks = ArrayVec<u8, 32>;
 
 // Adds the meaning of a byte between its neighbours.
 fn push_mark(marks: &mut Marks, before: u8, b: u8, more: &[u8]) -> Option<()>
-    ensures { IfSome result (λ _. marks.new.items ≡ marks.old.items ++ mark before b more.now) }
+    ensures { IfSome result (λ _. marks.new.items ≡ marks.old.items ++ byte_marks before b more.now) }
 {
     if is_piece(b) && ends_square(before) && !has_rank_next(more) {
         marks.try_push(b'=').ok()?;
@@ -113,7 +113,7 @@ fn push_mark(marks: &mut Marks, before: u8, b: u8, more: &[u8]) -> Option<()>
 
 // The meaning of a move's text; `None` if the text is too long.
 fn said(text: &[u8]) -> Option<Marks>
-    ensures { IfSome result (λ marks. marks.items ≡ said text.now) }
+    ensures { IfSome result (λ marks. marks.items ≡ move_marks text.now) }
 {
     let mut marks = ArrayVec::new();
     let mut before = 0u8;

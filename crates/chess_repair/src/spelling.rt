@@ -2,7 +2,7 @@
 
 ghost use Rattle.std.specs.Prelude.{◌≡◌, [], List, ℕ, IfOk};
 ghost use Rattle.chess_repair.specs.Repairs.{IsRepair, SaysNothing, quoted};
-ghost use Rattle.chess_repair.specs.Tags.{IsTag};
+ghost use Rattle.chess_repair.specs.Tags.{IsTagMeant};
 ghost use Rattle.chess_repair.specs.Spelled.{IsRewritten};
 
 use crate::ends::ends_game;
@@ -372,7 +372,7 @@ impl<'t, 'a, A: Allocator> Spelling<'t, 'a, A> {
 
     // A tag that is mended.
     fn tag(&mut self, tag: MendedTag<'_, 'a, A>) -> Result<(), AllocError>
-        requires { IsTag tag.was.now tag.text.items }
+        requires { IsTagMeant tag.was.now tag.text.items }
         ensures { self.new ≡ self.old }
     {
         let MendedTag { was, text, fault } = tag;

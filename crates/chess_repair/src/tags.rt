@@ -2,12 +2,13 @@
 
 ghost use Rattle.std.specs.Prelude.{◌≡◌, ◌++◌, None, Some, false, IfOk, IfSome};
 ghost use Rattle.std.specs.List.{list_all};
-ghost use Rattle.chess_items.specs.Items.{in_line};
+ghost use Rattle.chess_items.specs.Items.{in_line, is_escapable};
 ghost use Rattle.chess_repair.specs.Runs.{past_end};
-ghost use Rattle.chess_repair.specs.Tags.{IsTag, after_bracket, after_quote, begins_tag, escaped, escapes, first_name, has_name, is_bracket, is_edge, is_escapable, is_kept, is_quote, is_rough_tag, name_before_quote, name_in, opens_tag, rough_value, tag_text, unclosed, value_in};
+ghost use Rattle.chess_repair.specs.Tags.{IsTagMeant, after_bracket, after_quote, as_tag, begins_tag, closes_tag, escapes, first_name, has_name, is_kept, is_quote, is_rough_tag, is_trimmed, meant_name, meant_value, name_before_quote, opens_tag, rough_value, unclosed, with_escapes};
 
 use crate::marks::{after, blanks, is_blank, is_name, last_of, len_to, name_len, without_blanks};
 use crate::runs::{past_blanks, past_name};
+use chess_items::is_escapable;
 use std::alloc::{AllocError, Allocator};
 
 /// A quotation mark.
@@ -18,19 +19,11 @@ pub fn is_quote(b: u8) -> bool
     b == b'"'
 }
 
-#[tactic(auto, unfolding(crate::specs::Tags::is_bracket))]
-fn is_bracket(b: u8) -> bool
-    ensures { result ≡ is_bracket b }
+#[tactic(auto, unfolding(crate::specs::Tags::closes_tag))]
+fn closes_tag(b: u8) -> bool
+    ensures { result ≡ closes_tag b }
 {
     b == b']'
-}
-
-// A quotation mark or a backslash.
-#[tactic(auto, unfolding(crate::specs::Tags::is_escapable, crate::specs::Tags::is_quote))]
-fn is_escapable(b: u8) -> bool
-    ensures { result ≡ is_escapable b }
-{
-    b == b'"' || b == b'\\'
 }
 
 // A byte of names, or one beyond ASCII.
@@ -41,10 +34,10 @@ fn is_kept(b: u8) -> bool
     is_name(b) || 128 <= b
 }
 
-// What a value doesn't end with.
-#[tactic(auto, unfolding(crate::specs::Tags::is_edge))]
-fn is_edge(b: u8) -> bool
-    ensures { result ≡ is_edge b }
+// A byte that is trimmed from the end of a value.
+#[tactic(auto, unfolding(crate::specs::Tags::is_trimmed))]
+fn is_trimmed(b: u8) -> bool
+    ensures { result ≡ is_trimmed b }
 {
     is_blank(b) || is_quote(b)
 }
@@ -309,7 +302,7 @@ fn push_first_name<'a, A: Allocator>(
 
 // Adds the name of a tag.
 fn push_name<'a, A: Allocator>(text: &mut Vec<u8, &'a A>, tag: &[u8]) -> Result<(), AllocError>
-    ensures { IfOk result (λ _. text.new.items ≡ text.old.items ++ name_in tag.now) }
+    ensures { IfOk result (λ _. text.new.items ≡ text.old.items ++ meant_name tag.now) }
 {
     match after_quote(tag) {
         Some(_) => push_name_before_quote(text, tag),
@@ -332,18 +325,18 @@ fn unclosed(text: &[u8]) -> &[u8]
     ensures { result.now ≡ unclosed text.now }
 {
     match text {
-        [more @ .., b] => { if is_bracket(*b) { more } else { text } }
+        [more @ .., b] => { if closes_tag(*b) { more } else { text } }
         [] => text,
     }
 }
 
 // The text without blanks and quotation marks at its end.
 fn without_edges(text: &[u8]) -> &[u8]
-    ensures { result.now ≡ past_end is_edge text.now }
+    ensures { result.now ≡ past_end is_trimmed text.now }
 {
     let mut rest = text;
     while let [more @ .., b] = rest {
-        if !is_edge(*b) {
+        if !is_trimmed(*b) {
             break;
         }
         rest = more;
@@ -353,14 +346,14 @@ fn without_edges(text: &[u8]) -> &[u8]
 
 // The value of a tag.
 fn value_of(tag: &[u8]) -> &[u8]
-    ensures { result.now ≡ value_in tag.now }
+    ensures { result.now ≡ meant_value tag.now }
 {
     past_blanks(without_edges(unclosed(rough_value(tag))))
 }
 
 // Adds a value with its quotation marks and backslashes escaped.
 fn push_escaped<'a, A: Allocator>(text: &mut Vec<u8, &'a A>, value: &[u8]) -> Result<(), AllocError>
-    ensures { IfOk result (λ _. text.new.items ≡ text.old.items ++ escaped false value.now) }
+    ensures { IfOk result (λ _. text.new.items ≡ text.old.items ++ with_escapes false value.now) }
 {
     let mut is_escaped = false;
     let mut rest = value;
@@ -378,7 +371,7 @@ fn push_escaped<'a, A: Allocator>(text: &mut Vec<u8, &'a A>, value: &[u8]) -> Re
 
 // The tag that is meant by a text.
 fn text_of<'a, A: Allocator>(alloc: &'a A, tag: &[u8]) -> Result<Vec<u8, &'a A>, AllocError>
-    ensures { IfOk result (λ text. text.items ≡ tag_text (name_in tag.now) (value_in tag.now)) }
+    ensures { IfOk result (λ text. text.items ≡ as_tag (meant_name tag.now) (meant_value tag.now)) }
 {
     let mut text = Vec::new(alloc);
     text.push(b'[')?;
@@ -424,7 +417,7 @@ pub fn mend_tag<'t, 'a, A: Allocator>(
     alloc: &'a A,
     text: &'t [u8],
 ) -> Result<Option<MendedTag<'t, 'a, A>>, AllocError>
-    ensures { IfOk result (λ found. IfSome found (λ tag. IsTag tag.was.now tag.text.items)) }
+    ensures { IfOk result (λ found. IfSome found (λ tag. IsTagMeant tag.was.now tag.text.items)) }
 {
     let Some(Extent { length, fault }) = extent_of(text) else {
         return Ok(None);
