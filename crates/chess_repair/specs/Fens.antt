@@ -77,13 +77,13 @@ abbrev pub if_right : List ℕ → ℕ → List ℕ
 if_right field wanted = if list_any (λ b. right b == wanted) field then wanted ∷ [] else []
 
 -- the sign of no right at all
-abbrev pub or_dash : List ℕ → List ℕ
-or_dash [] = codes "-"
-or_dash (b ∷ bs) = b ∷ bs
+abbrev pub or_no_right : List ℕ → List ℕ
+or_no_right [] = codes "-"
+or_no_right (b ∷ bs) = b ∷ bs
 
 abbrev pub standard_rights : List ℕ → List ℕ
 standard_rights field =
-    or_dash (if_right field (byte "K") ++ (if_right field (byte "Q") ++ (if_right field (byte "k") ++ if_right field (byte "q"))))
+    or_no_right (if_right field (byte "K") ++ (if_right field (byte "Q") ++ (if_right field (byte "k") ++ if_right field (byte "q"))))
 
 -- ---- what is written
 
