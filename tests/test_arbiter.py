@@ -5,6 +5,7 @@ import json
 import os
 import re
 import subprocess
+import threading
 import unittest
 
 import runs
@@ -255,6 +256,17 @@ class Arbiter(unittest.TestCase):
         finally:
             os.close(folder)
         self.assertEqual((ended.returncode, ended.stderr), (3, b"read fault\n"))
+
+    def test_a_row_is_written_once_its_game_has_come(self):
+        """The other end of the pipe is still open, and doesn't write."""
+        with subprocess.Popen([ARBITER, "--format", "jsonl"], stdin=subprocess.PIPE, stdout=subprocess.PIPE) as arbiter:
+            timer = threading.Timer(runs.MOST_SECONDS, arbiter.kill)
+            timer.start()
+            for number in (1, 2, 3):
+                arbiter.stdin.write(b'[White "a"]\n\n1. e4 *\n')
+                arbiter.stdin.flush()
+                self.assertEqual(json.loads(arbiter.stdout.readline())["number"], number)
+            timer.cancel()
 
     def test_a_failed_read_loses_no_game_that_was_read(self):
         """Each game has its row. One that reaches the last byte hasn't, since more bytes might make it longer. (The longest text is longer than the window.)"""

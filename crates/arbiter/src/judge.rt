@@ -1,8 +1,10 @@
 //! A row for each game of a collection.
 
 ghost use Rattle.std.specs.Prelude.{◌≡◌, ◌≤◌, ◌≢◌, true, false, [], None, Some, IfErr, IfOk, IfSome, length};
+ghost use Rattle.chess_collection.specs.Handling.{IsEarly};
 ghost use Rattle.chess_collection.specs.Headings.{IsHeadingOf};
 ghost use Rattle.chess_collection.specs.Windows.{KnowsItsEnd};
+ghost use Rattle.chess_collection.specs.declared.handler.Fate.TheVariants.{Read};
 ghost use Rattle.chess_items.specs.declared.fault.FaultKind.TheVariants.{Memory};
 ghost use Rattle.chess_command_line.specs.declared.collection.Failure.TheVariants as by;
 ghost use Rattle.chess_pgn.specs.Reading.{BeginsWithGame, HasNoGame};
@@ -175,6 +177,7 @@ impl RowMaker {
         requires begins { BeginsWithGame bytes.now (game_of game.now) used }
         requires fits { used ≤ length bytes.now }
         ensures used { IfOk result (λ h. h.used ≡ used) }
+        ensures fate { IfOk result (λ h. h.fate ≡ Read) }
         ensures row { IfOk result (λ h. IsRow self.now.asked place.number place.offset bytes.now used h.fate h.text.items) }
     {
         let heading = heading_of(self.alloc, bytes)?;
@@ -254,6 +257,32 @@ impl RowMaker {
     }
 }
 
+impl RowMaker {
+    // What becomes of the good game that a text in the standard's letters begins with, if it ends before the last byte.
+    fn early_spelt(&self, place: Place, bytes: &[u8]) -> Result<Option<Handled>, Failure>
+        ensures early { IfOk result (λ found. IfSome found (λ h. IsEarly bytes.now h.used h.fate)) }
+        ensures row { IfOk result (λ found. IfSome found (λ h. IsRow self.now.asked place.number place.offset bytes.now h.used h.fate h.text.items)) }
+        ensures memory { IfErr result (λ failure. failure ≡ by.Memory) }
+    {
+        match read_game(&self.alloc, bytes) {
+            Ok(None) => Ok(None),
+            Ok(Some((game, used))) => {
+                if used >= bytes.len() {
+                    return Ok(None);
+                }
+                match self.good(place, bytes, &game, used) {
+                    Ok(handled) => Ok(Some(handled)),
+                    Err(_) => Err(Failure::Memory),
+                }
+            }
+            Err(fault) => match fault.kind {
+                FaultKind::Memory => Err(Failure::Memory),
+                _ => Ok(None),
+            },
+        }
+    }
+}
+
 impl GameHandler for RowMaker {
     ghost use Rattle.chess_salvage.specs.Endings.{ComesLast};
     ghost use Rattle.arbiter.specs.Collections.{IsRowIn};
@@ -261,6 +290,19 @@ impl GameHandler for RowMaker {
     ghost handles = { λ maker number offset bytes used fate text. IsRowIn maker.asked number offset bytes used fate text };
 
     ghost white = { λ bytes. ComesLast bytes };
+
+    #[tactic(auto, using(crate::proofs::RowLemmas::row_in))]
+    fn early(&self, place: Place, bytes: &[u8]) -> Result<Option<Handled>, Failure> {
+        match respell(&self.alloc, self.asked.letters, bytes) {
+            Ok(Some(respelled)) => match self.early_spelt(place, respelled.text.as_slice()) {
+                Ok(Some(handled)) => Ok(Some(handled)),
+                Ok(None) => Ok(None),
+                Err(failure) => Err(failure),
+            },
+            Ok(None) => self.early_spelt(place, bytes),
+            Err(_) => Err(Failure::Memory),
+        }
+    }
 
     #[tactic(auto, using(crate::proofs::RowLemmas::row_in))]
     fn handle(&self, place: Place, bytes: &[u8]) -> Result<Option<Handled>, Failure> {

@@ -1,6 +1,6 @@
 -- Stretches of a collection one after another.
 use Rattle.std.proofs.Common.{◌≡◌, ◌⊎◌, inl, inr, ℕ, suc, ◌+◌, ◌*◌, ◌≤◌, ◌<◌, Bool, true, false, if◌then◌else◌, List, [], ◌∷◌, ◌++◌, length, take, drop, refl, sym, ap, subst, ◌∙◌, arith, append_assoc, append-nil, length-append, length-take-le, take-append-drop, Option, Some}
-use Rattle.std.specs.Prelude.{IfSome, Result, Ok, Err}
+use Rattle.std.specs.Prelude.{IfErr, IfOk, IfSome, Result, Ok, Err}
 use Rattle.byte_streams.specs.Calls.{Calls}
 use Rattle.chess_loop.specs.RunEnds.{Broken}
 use Rattle.chess_loop.specs.steps.Sending.{Sent}
@@ -9,9 +9,9 @@ use Rattle.chess_command_line.specs.declared.collection.Failure.{Failure}
 use Rattle.chess_command_line.specs.declared.collection.Failure.TheVariants as by
 use Rattle.chess_collection.specs.declared.going.Totals.{Totals}
 use Rattle.chess_collection.specs.declared.handler.Fate.{Fate}
-use Rattle.chess_collection.specs.declared.handler.Fate.TheVariants.{Read, Lost, Left}
-use Rattle.chess_collection.specs.Handling.{GoesOver, Handles, IsCutShort, IsOpenEnd, IsSentWhole, Reaches, ReachesOn, Stretch, Tiles, TilesLast, bad_in, bad_of, most_handled, passed_in, passed_of, written_of}
-use Rattle.chess_collection.specs.steps.Going.{BreaksOff, ComesFew, Fills, FillsAll, Finishes, IsBroken, IsLast, IsSent, has_broken}
+use Rattle.chess_collection.specs.declared.handler.Fate.TheVariants.{Read, Saved, Lost, Left}
+use Rattle.chess_collection.specs.Handling.{GoesOver, Handles, IsCutShort, IsEarly, IsOpenEnd, IsSentWhole, Reaches, ReachesOn, Stretch, Tiles, TilesLast, bad_in, bad_of, most_handled, passed_in, passed_of, written_of}
+use Rattle.chess_collection.specs.steps.Going.{BreaksOff, ComesFew, Fills, FillsAll, Finishes, IsBroken, IsEnough, IsLast, IsSent, has_broken}
 use Rattle.chess_collection.specs.Windows.{AreFew, Comes, ComesSome, ReadEnds, HasRun, IsLookedAt, IsWide, KnowsItsEnd, Loses, NoMore, StayFew, Window}
 use Rattle.chess_collection.proofs.WindowLemmas.{comes_on, then_comes}
 
@@ -38,12 +38,12 @@ written-both [] ts = refl
 written-both (s ∷ ss) ts = ap (λ (t : List ℕ). s.text ++ t) (written-both ss ts) ∙ sym (append_assoc s.text (written_of ss) (written_of ts))
 
 tiles-more : (handles : Handles) (white : List ℕ → Type 0) (whole : List ℕ) (number offset : ℕ) (text : List ℕ) (ss : List Stretch) (s : Stretch) (rest window after : List ℕ) (here : ℕ) → offset + length text ≡ here + length rest
-    → Tiles handles white whole number offset text ss rest → IsLookedAt white whole window rest → handles (number + length ss) here window (length s.bytes) s.fate s.text → rest ≡ s.bytes ++ after
+    → Tiles handles white whole number offset text ss rest → IsLookedAt white whole window rest (IsEarly window (length s.bytes) s.fate) → handles (number + length ss) here window (length s.bytes) s.fate s.text → rest ≡ s.bytes ++ after
     → Tiles handles white whole number offset text (ss ++ s ∷ []) after
 tiles-more handles white whole number offset text [] s rest window after here placed t looked handled parts =
     let same : offset ≡ here = (let l = ap length t in omega (arith, l, placed)) in
     let first : number + length {A = Stretch} [] ≡ number = omega arith in
-    (window, after, subst (λ (x : List ℕ). IsLookedAt white whole window x) (sym t) looked, subst (λ (n : ℕ). handles n offset window (length s.bytes) s.fate s.text) first (subst (λ (n : ℕ). handles (number + length {A = Stretch} []) n window (length s.bytes) s.fate s.text) (sym same) handled), t ∙ parts, refl)
+    (window, after, subst (λ (x : List ℕ). IsLookedAt white whole window x (IsEarly window (length s.bytes) s.fate)) (sym t) looked, subst (λ (n : ℕ). handles n offset window (length s.bytes) s.fate s.text) first (subst (λ (n : ℕ). handles (number + length {A = Stretch} []) n window (length s.bytes) s.fate s.text) (sym same) handled), t ∙ parts, refl)
 tiles-more handles white whole number offset text (first ∷ ss) s rest window after here placed (w, a, l, e, p, t) looked handled parts =
     let place : number + length (first ∷ ss) ≡ suc number + length ss = omega arith in (
       w,
@@ -177,6 +177,35 @@ broken_off {R} gives failed ended white holds a b c failure f few n = any failur
     any by.Write n = absurd n
     any by.Memory (last, some, loses) = (last, some_few last some, loses)
 
+-- what follows of an answer without an error
+pub on_both : {A E : Type 0} {P Q S : Type 0} (told : Result A E) → (P → Q → S) → IfOk told (λ _. P) → IfOk told (λ _. Q) → IfOk told (λ _. S)
+on_both (Ok x) follows p q = follows p q
+on_both (Err e) follows p q = p
+
+-- of an error
+pub on_err : {A E : Type 0} {P Q : E → Type 0} (told : Result A E) → ((e : E) → P e → Q e) → IfErr told P → IfErr told Q
+on_err (Ok x) follows p = p
+on_err (Err e) follows p = follows e p
+
+-- few bytes are at hand, and then no more than are few
+pub both_few : (white : List ℕ → Type 0) (a b c : List ℕ) → StayFew white a b → (more : List ℕ) → c ≡ b ++ more → StayFew white b c → StayFew white a c
+both_few white a b c (inl less) more is (inl same) = inl (omega (arith, less, same))
+both_few white a b c (inr few) more is (inl same) = inr (subst (λ (z : List ℕ). AreFew white z c) (sym is) (few_on white b more c (few_less white b c c (omega arith) (few_less white b b c same few))))
+both_few white a b c one more is (inr few) = inr few
+
+-- bytes came, and then no more
+pub both_off : {R : Type 0} (gives : R → List ℕ → R → Type 0) (failed : R → Bool) (ended : R → Type 0) (white : List ℕ → Type 0) (a b c : Window R) (failure : Failure) → Comes gives failed a b → StayFew white a.bytes b.bytes → BreaksOff gives failed ended white b c failure
+    → BreaksOff gives failed ended white a c failure
+both_off {R} gives failed ended white a b c failure f few n = any failure n
+  where
+    on : (last : Window R) → ComesFew gives failed ended white b last → ComesFew gives failed ended white a last
+    on last some = record { comes = comes_on gives failed a b last f some.comes; sound = some.sound; few = both_few white a.bytes b.bytes last.bytes few some.comes.bytes some.comes.whole some.few }
+
+    any : (failure : Failure) → BreaksOff gives failed ended white b c failure → BreaksOff gives failed ended white a c failure
+    any by.Read (last, some, goes_on, kept, fails) = (last, on last some, goes_on, kept, fails)
+    any by.Write n = absurd n
+    any by.Memory (last, some, loses) = (last, on last some, loses)
+
 -- the handler's memory ran out
 pub starved : {R : Type 0} (gives : R → List ℕ → R → Type 0) (failed : R → Bool) (ended : R → Type 0) (white : List ℕ → Type 0) (a b : Window R) (failure : Failure) → Comes gives failed a b → KnowsItsEnd ended b → StayFew white a.bytes b.bytes → failure ≡ by.Memory
     → BreaksOff gives failed ended white a b failure
@@ -299,12 +328,13 @@ module _ {R W : Type 0} (gives : R → List ℕ → R → Type 0) (failed : R �
     stops = inl (refl, loses);
   }
 
-  looked_at : (whole : List ℕ) (u : Window R) (more : List ℕ) → IsWide u → (u.has_ended ≡ true → more ≡ []) → AreFew white whole u.bytes → IsLookedAt white whole u.bytes (u.bytes ++ more)
-  looked_at whole u more (inl wide) ends few = record { more = more; parts = refl; wide = inl wide; few = few }
-  looked_at whole u more (inr over) ends few = record { more = more; parts = refl; wide = inr (ends over); few = few }
+  looked_at : (whole : List ℕ) (u : Window R) (more : List ℕ) (enough : Type 0) → IsWide u ⊎ enough → (u.has_ended ≡ true → more ≡ []) → AreFew white whole u.bytes → IsLookedAt white whole u.bytes (u.bytes ++ more) enough
+  looked_at whole u more enough (inl (inl wide)) ends few = record { more = more; parts = refl; wide = inl wide; few = few }
+  looked_at whole u more enough (inl (inr over)) ends few = record { more = more; parts = refl; wide = inr (inl (ends over)); few = few }
+  looked_at whole u more enough (inr early) ends few = record { more = more; parts = refl; wide = inr (inr early); few = few }
 
   -- a stretch more is reached
-  module _ (u v : Window R) (page : List ℕ) (w : W) (before bytes passed bad used : ℕ) (fate : Fate) (text : List ℕ) (f : State u page w before bytes passed bad) (wide : IsWide u) (fits : used ≤ length u.bytes)
+  module _ (u v : Window R) (page : List ℕ) (w : W) (before bytes passed bad used : ℕ) (fate : Fate) (text : List ℕ) (f : State u page w before bytes passed bad) (wide : IsEnough u used fate) (fits : used ≤ length u.bytes)
       (handled : handles (before + 1) bytes u.bytes used fate text) (left : v.bytes ≡ drop used u.bytes) (same : v.source ≡ u.source) (ends_as : v.has_ended ≡ u.has_ended) (reads : v.reads ≡ u.reads) where
     one : Stretch
     one = record { bytes = take used u.bytes; fate = fate; text = text }
@@ -313,6 +343,9 @@ module _ {R W : Type 0} (gives : R → List ℕ → R → Type 0) (failed : R �
     here =
         subst (λ (n : ℕ). handles (1 + length f.ss) bytes u.bytes n fate text) (sym (length-take-le used u.bytes fits))
         (subst (λ (n : ℕ). handles n bytes u.bytes used fate text) (let x = f.counted in let e : before + 1 ≡ 1 + length f.ss = omega (arith, x) in e) handled)
+
+    enough : IsWide u ⊎ IsEarly u.bytes (length (take used u.bytes)) fate
+    enough = subst (λ (n : ℕ). IsWide u ⊎ IsEarly u.bytes n fate) (sym (length-take-le used u.bytes fits)) wide
 
     rest_is : u.bytes ≡ take used u.bytes ++ v.bytes
     rest_is = sym (take-append-drop used u.bytes) ∙ ap (λ (z : List ℕ). take used u.bytes ++ z) (sym left)
@@ -331,17 +364,19 @@ module _ {R W : Type 0} (gives : R → List ℕ → R → Type 0) (failed : R �
       tiles = λ rest ends.
           let over = λ (e : u.has_ended ≡ true). ends (ends_as ∙ e) in
           tiles-more handles white (f.text ++ rest) 1 0 (f.text ++ rest) f.ss one (u.bytes ++ rest) u.bytes (v.bytes ++ rest) bytes (let x = f.placed in let n = length-append f.text rest in let m = length-append u.bytes rest in omega (arith, x, n, m)) (f.reaches.tiles rest over)
-          (looked_at (f.text ++ rest) u rest wide over (few_on white f.text rest u.bytes f.reaches.few)) here
+          (looked_at (f.text ++ rest) u rest (IsEarly u.bytes (length (take used u.bytes)) fate) enough over (few_on white f.text rest u.bytes f.reaches.few)) here
           (ap (λ (z : List ℕ). z ++ rest) rest_is ∙ append_assoc (take used u.bytes) v.bytes rest);
     }
 
     at_most : (f : Fate) → passed_of f used ≤ used
     at_most Read = omega arith
+    at_most Saved = omega arith
     at_most Lost = omega arith
     at_most Left = omega arith
 
     at_most_one : (f : Fate) → bad_of f ≤ 1
     at_most_one Read = omega arith
+    at_most_one Saved = omega arith
     at_most_one Lost = omega arith
     at_most_one Left = omega arith
 

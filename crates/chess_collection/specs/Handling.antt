@@ -1,6 +1,7 @@
 -- What a handler of games makes of a collection.
 --   Stretch      some bytes of a collection: those of a game, or others; whether a game is read of them; and what is written of them
 --   bad_of       it is a game that can't be read, and counts; passed_of, how many of its bytes are passed over
+--   IsEarly      a good game ends before the last byte of a text, so that more bytes change nothing of it
 --   Tiles        stretches of some bytes, one after another, without a gap, each handled by its number and the number of bytes before it, as the bytes that are
 --                looked at where it begins say; and the bytes after them
 --   TilesLast    stretches of bytes after which none came, one after another, each handled as if the source had ended there, and each ends before the last byte
@@ -24,7 +25,7 @@ use Rattle.chess_command_line.specs.declared.collection.Failure.{Failure}
 use Rattle.chess_command_line.specs.declared.collection.Failure.TheVariants as by
 use Rattle.chess_collection.specs.declared.going.Totals.{Totals}
 use Rattle.chess_collection.specs.declared.handler.Fate.{Fate}
-use Rattle.chess_collection.specs.declared.handler.Fate.TheVariants.{Read, Lost}
+use Rattle.chess_collection.specs.declared.handler.Fate.TheVariants.{Read, Saved, Lost}
 use Rattle.chess_collection.specs.Windows.{AreFew, ReadEnds, IsLookedAt, Loses, Window}
 
 pub record Stretch : Type 0 where
@@ -37,11 +38,14 @@ pub record Stretch : Type 0 where
 abbrev pub Handles : Type 1
 Handles = ℕ → ℕ → List ℕ → ℕ → Fate → List ℕ → Type 0
 
+abbrev pub IsEarly : List ℕ → ℕ → Fate → Type 0
+IsEarly window used fate = (fate ≡ Read) × (used < length window)
+
 -- of a whole text
 abbrev pub Tiles : Handles → (List ℕ → Type 0) → List ℕ → ℕ → ℕ → List ℕ → List Stretch → List ℕ → Type 0
 Tiles handles white whole number offset left [] rest = left ≡ rest
 Tiles handles white whole number offset left (s ∷ ss) rest =
-    (window after : List ℕ) × IsLookedAt white whole window left × handles number offset window (length s.bytes) s.fate s.text × (left ≡ s.bytes ++ after)
+    (window after : List ℕ) × IsLookedAt white whole window left (IsEarly window (length s.bytes) s.fate) × handles number offset window (length s.bytes) s.fate s.text × (left ≡ s.bytes ++ after)
     × Tiles handles white whole (suc number) (offset + length s.bytes) after ss rest
 
 abbrev pub TilesLast : Handles → ℕ → ℕ → List ℕ → List Stretch → List ℕ → Type 0
@@ -63,6 +67,7 @@ bad_of _ = 0
 -- how many of `used` bytes are passed over
 abbrev pub passed_of : Fate → ℕ → ℕ
 passed_of Read used = 0
+passed_of Saved used = 0
 passed_of _ used = used
 
 abbrev pub bad_in : List Stretch → ℕ

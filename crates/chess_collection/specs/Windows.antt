@@ -7,11 +7,11 @@
 --   Loses    at most 65,536 bytes came, and there was no memory for them
 --   NoMore   bytes came, of which something holds, and then a read failed, or there may be no more, and all that came are at hand; or there was no memory
 --   IsWide   as many bytes are at hand as are looked at for a game, which are more than it may have; or all that are left
---   most_at_hand  the most bytes at hand: 3,342,336
+--   most_at_hand  the most bytes at hand: 1,245,184
 --   HasRun   some bytes have a run that a handler calls white, at least half as long as a length, but for 65,536
 --   AreFew   no more bytes of a text are at hand than `most_at_hand`; or the text has a run of white at least half as long
 --   StayFew  the bytes at hand are no more than before, or than `most_at_hand`; or they begin with such a run
---   IsLookedAt   bytes that are looked at: all that are left, or the first of them, 1,179,648 at least; and few of the whole text
+--   IsLookedAt   bytes that are looked at: all that are left, or the first of them, 1,179,648 at least, or fewer where they are enough; and few of the whole text
 use Rattle.std.specs.Prelude.{◌≡◌, ◌⊎◌, ◌≤◌, ℕ, ◌+◌, ◌*◌, Bool, true, false, List, [], ◌++◌, length}
 use Rattle.byte_streams.specs.Calls.{Carries}
 use Rattle.chess_command_line.specs.declared.collection.Failure.{Failure}
@@ -59,7 +59,7 @@ abbrev pub IsWide : {R : Type 0} → Window R → Type 0
 IsWide w = (1179648 ≤ length w.bytes) ⊎ (w.has_ended ≡ true)
 
 abbrev pub most_at_hand : ℕ
-most_at_hand = 3342336
+most_at_hand = 1245184
 
 pub record HasRun (white : List ℕ → Type 0) (text : List ℕ) (count : ℕ) : Type 0 where
   pub before : List ℕ
@@ -75,8 +75,8 @@ AreFew white text bytes = (length bytes ≤ most_at_hand) ⊎ HasRun white text 
 abbrev pub StayFew : (List ℕ → Type 0) → List ℕ → List ℕ → Type 0
 StayFew white old bytes = (length bytes ≤ length old) ⊎ AreFew white bytes bytes
 
-pub record IsLookedAt (white : List ℕ → Type 0) (text window left : List ℕ) : Type 0 where
+pub record IsLookedAt (white : List ℕ → Type 0) (text window left : List ℕ) (enough : Type 0) : Type 0 where
   pub more : List ℕ
   pub parts : left ≡ window ++ more
-  pub wide : (1179648 ≤ length window) ⊎ (more ≡ [])
+  pub wide : (1179648 ≤ length window) ⊎ (more ≡ []) ⊎ enough
   pub few : AreFew white text window

@@ -4,9 +4,9 @@ ghost use Rattle.std.specs.Prelude.{◌≡◌, ◌≤◌, ◌<◌, ◌+◌, ◌*
 ghost use Rattle.chess_loop.specs.steps.Sending.{Flows, Sends};
 ghost use Rattle.chess_command_line.specs.declared.collection.Failure.{Failure};
 ghost use Rattle.chess_command_line.specs.declared.collection.Failure.TheVariants as by;
-ghost use Rattle.chess_collection.specs.Handling.{GoesOver};
+ghost use Rattle.chess_collection.specs.Handling.{GoesOver, IsEarly};
 ghost use Rattle.chess_collection.specs.Windows.{Comes, IsWide, KnowsItsEnd, StayFew};
-ghost use Rattle.chess_collection.specs.steps.Going.{BreaksOff, Fills, Finishes, has_broken};
+ghost use Rattle.chess_collection.specs.steps.Going.{BreaksOff, Fills, Finishes, IsEnough, has_broken};
 
 use crate::handler::{Fate, GameHandler, Handled};
 use crate::window::Window;
@@ -45,13 +45,46 @@ fn put_text<W: Sink>(
     Ok(())
 }
 
-// What becomes of the next stretch; `None` where nothing but what the handler calls white is left.
-fn next_handled<'a, R: Source, A: Allocator, H: GameHandler>(
+// Reads until a good game is decided, or as many bytes are at hand as are looked at for a game.
+fn widen<'a, R: Source, A: Allocator, H: GameHandler>(
     handler: &H,
     window: &mut Window<'a, R, A>,
     place: Place,
 ) -> Result<Option<Handled>, Failure>
     requires sound { KnowsItsEnd R.ended window.old }
+    requires first { 1 ≤ place.number }
+    requires few { place.number ≤ 144115188075855872 }
+    ensures came { IfOk result (λ _. Comes R.gives R.failed window.old window.new) }
+    ensures sound { IfOk result (λ _. KnowsItsEnd R.ended window.new) }
+    ensures wide { IfOk result (λ found. found ≡ None → IsWide window.new) }
+    ensures few { IfOk result (λ _. StayFew H.white window.old.bytes window.new.bytes) }
+    ensures early { IfOk result (λ found. IfSome found (λ h. IsEarly window.new.bytes h.used h.fate)) }
+    ensures handled { IfOk result (λ found. IfSome found (λ h. H.handles handler.now place.number place.offset window.new.bytes h.used h.fate h.text.items)) }
+    ensures broken { IfErr result (λ failure. BreaksOff R.gives R.failed R.ended H.white window.old window.new failure) }
+{
+    let mut least = 0usize;
+    while !window.is_wide() {
+        window.read_more()?;
+        let count = window.unread().len();
+        // (Once they are an eighth more, so that bytes are gone over a few times, however few come at once.)
+        if count >= least {
+            least = count.saturating_add(count / 8);
+            if let Some(handled) = handler.early(place, window.unread())? {
+                return Ok(Some(handled));
+            }
+        }
+    }
+    Ok(None)
+}
+
+// What becomes of the stretch that the bytes at hand begin with, and more where they are white; `None` where nothing but what the handler calls white is left.
+fn decided<'a, R: Source, A: Allocator, H: GameHandler>(
+    handler: &H,
+    window: &mut Window<'a, R, A>,
+    place: Place,
+) -> Result<Option<Handled>, Failure>
+    requires sound { KnowsItsEnd R.ended window.old }
+    requires wide { IsWide window.old }
     requires first { 1 ≤ place.number }
     requires few { place.number ≤ 144115188075855872 }
     ensures came { IfOk result (λ _. Comes R.gives R.failed window.old window.new) }
@@ -63,7 +96,6 @@ fn next_handled<'a, R: Source, A: Allocator, H: GameHandler>(
     ensures end { IfOk result (λ found. found ≡ None → (window.new.has_ended ≡ true) × H.white window.new.bytes) }
     ensures broken { IfErr result (λ failure. BreaksOff R.gives R.failed R.ended H.white window.old window.new failure) }
 {
-    window.widen()?;
     loop {
         if let Some(handled) = handler.handle(place, window.unread())? {
             return Ok(Some(handled));
@@ -76,6 +108,36 @@ fn next_handled<'a, R: Source, A: Allocator, H: GameHandler>(
         window.read_more()?;
         window.fill(most)?;
     }
+}
+
+// What becomes of the next stretch, which was found early, or for which more is read; `None` where nothing but what the handler calls white is left.
+fn next_handled<'a, R: Source, A: Allocator, H: GameHandler>(
+    handler: &H,
+    window: &mut Window<'a, R, A>,
+    place: Place,
+    early: Option<Handled>,
+) -> Result<Option<Handled>, Failure>
+    requires sound { KnowsItsEnd R.ended window.old }
+    requires first { 1 ≤ place.number }
+    requires few { place.number ≤ 144115188075855872 }
+    requires early { IfSome early (λ h. IsEarly window.old.bytes h.used h.fate) }
+    requires handled { IfSome early (λ h. H.handles handler.now place.number place.offset window.old.bytes h.used h.fate h.text.items) }
+    ensures came { IfOk result (λ _. Comes R.gives R.failed window.old window.new) }
+    ensures sound { IfOk result (λ _. KnowsItsEnd R.ended window.new) }
+    ensures enough { IfOk result (λ found. IfSome found (λ h. IsEnough window.new h.used h.fate)) }
+    ensures few { IfOk result (λ _. StayFew H.white window.old.bytes window.new.bytes) }
+    ensures fits { IfOk result (λ found. IfSome found (λ h. h.used ≤ length window.new.bytes)) }
+    ensures handled { IfOk result (λ found. IfSome found (λ h. H.handles handler.now place.number place.offset window.new.bytes h.used h.fate h.text.items)) }
+    ensures end { IfOk result (λ found. found ≡ None → (window.new.has_ended ≡ true) × H.white window.new.bytes) }
+    ensures broken { IfErr result (λ failure. BreaksOff R.gives R.failed R.ended H.white window.old window.new failure) }
+{
+    if let Some(handled) = early {
+        return Ok(Some(handled));
+    }
+    if let Some(handled) = widen(handler, window, place)? {
+        return Ok(Some(handled));
+    }
+    decided(handler, window, place)
 }
 
 impl Totals {
@@ -109,7 +171,7 @@ impl Totals {
     {
         self.repaired = self.repaired.saturating_add(handled.repaired);
         match handled.fate {
-            Fate::Read => {}
+            Fate::Read | Fate::Saved => {}
             Fate::Lost => {
                 self.bad += 1;
                 self.passed += handled.used as u64;
@@ -137,15 +199,15 @@ impl Totals {
     }
 }
 
-// Writes what is on the page, where more is to be read.
-fn let_go<'a, R: Source, W: Sink, A: Allocator>(
-    window: &Window<'a, R, A>,
+// Writes what is on the page, where more may be read.
+fn let_go<W: Sink>(
+    early: &Option<Handled>,
     page: &mut OutputBuffer<Global>,
     writer: &mut W,
 ) -> Result<(), Failed>
     ensures { Flows W.takes W.failed page.old writer.old page.new writer.new result }
 {
-    if window.is_wide() {
+    if early.is_some() {
         return Ok(());
     }
     page.flush(writer)
@@ -208,15 +270,19 @@ fn fill<'a, R: Source, W: Sink, A: Allocator, H: GameHandler>(
     let mut totals = Totals::none();
     for before in 0..GAMES {
         progress.show(totals.bytes, before);
-        match let_go(window, page, writer) {
-            Ok(()) => {}
-            Err(_) => return Err(Failure::Write),
-        }
         let place = Place {
             number: before + 1,
             offset: totals.bytes,
         };
-        let handled = match next_handled(handler, window, place) {
+        let early = match handler.early(place, window.unread()) {
+            Ok(early) => early,
+            Err(failure) => return Err(failure),
+        };
+        match let_go(&early, page, writer) {
+            Ok(()) => {}
+            Err(_) => return Err(Failure::Write),
+        }
+        let handled = match next_handled(handler, window, place, early) {
             Err(Failure::Read) => {
                 return Err(finish(handler, window, page, writer, before, totals.bytes));
             }

@@ -2,6 +2,7 @@
 
 ghost use Rattle.std.specs.Prelude.{◌≡◌, ◌≤◌, None, length, IfErr, IfOk, IfSome};
 ghost use Rattle.chess_command_line.specs.declared.collection.Failure.TheVariants as by;
+ghost use Rattle.chess_collection.specs.Handling.{IsEarly};
 
 use chess_command_line::{Failure, Place};
 
@@ -10,6 +11,8 @@ use chess_command_line::{Failure, Place};
 pub enum Fate {
     /// A game is read of them.
     Read,
+    /// A game is read of their repaired text.
+    Saved,
     /// None is, and they are passed over; the game is counted.
     Lost,
     /// None is, and they are passed over; the game isn't counted.
@@ -21,7 +24,7 @@ pub enum Fate {
 pub struct Handled {
     /// How many bytes it has.
     pub used: usize,
-    /// Whether it can be read.
+    /// What they are.
     pub fate: Fate,
     /// How much was repaired in it.
     pub repaired: u64,
@@ -40,6 +43,15 @@ pub trait GameHandler {
 
     /// No game, and no other stretch, is in these bytes.
     ghost white: { List ℕ → Type 0 };
+
+    /// The stretch of the good game that the bytes begin with, if it ends before the last byte. More bytes change nothing of such a game. `None` if the bytes may
+    /// not be enough.
+    fn early(&self, place: Place, bytes: &[u8]) -> Result<Option<Handled>, Failure>
+        requires first { 1 ≤ place.number }
+        requires few { place.number ≤ 144115188075855872 }
+        ensures early { IfOk result (λ found. IfSome found (λ h. IsEarly bytes.now h.used h.fate)) }
+        ensures handled { IfOk result (λ found. IfSome found (λ h. handles self.now place.number place.offset bytes.now h.used h.fate h.text.items)) }
+        ensures memory { IfErr result (λ failure. failure ≡ by.Memory) };
 
     /// What becomes of the stretch that the bytes begin with; `None` where there is none.
     fn handle(&self, place: Place, bytes: &[u8]) -> Result<Option<Handled>, Failure>

@@ -9,11 +9,8 @@ use chess_items::{AtHand, Fault};
 use std::alloc::Allocator;
 use std::marker::Model;
 
-/// How many bytes are at hand at the start of each game, at least, if that many are left: more than a game has.
+/// How many bytes are at hand for a game that may be bad, at least, if that many are left: more than a game has.
 const LEAST: usize = 1_179_648;
-
-/// How many are read where there are fewer, so that bytes aren't moved for each game.
-const ENOUGH: usize = 3_276_800;
 
 /// A source with bytes that were read and are not used yet, as many as are asked for. Contracts see both, whether its end was seen, and how many more
 /// reads there may be.
@@ -133,23 +130,9 @@ impl<'a, R: Source, A: Allocator> Window<'a, R, A> {
 
     /// Whether as many bytes are at hand as are looked at for a game, or the source has ended.
     pub fn is_wide(&self) -> bool
-        ensures { result ≡ true → IsWide self.now }
+        ensures wide { result ≡ true → IsWide self.now }
+        ensures few { result ≡ false → (self.now.has_ended ≡ false) × (length self.now.bytes < 1179648) }
     {
         self.has_ended || self.unread().len() >= LEAST
-    }
-
-    /// Sees to it that as many are, and where they aren't, reads more than that, so that bytes aren't moved for each game.
-    pub fn widen(&mut self) -> Result<(), Failure>
-        requires sound { KnowsItsEnd R.ended self.old }
-        ensures came { IfOk result (λ _. Comes R.gives R.failed self.old self.new) }
-        ensures sound { IfOk result (λ _. KnowsItsEnd R.ended self.new) }
-        ensures wide { IfOk result (λ _. IsWide self.new) }
-        ensures few { IfOk result (λ _. (length self.new.bytes ≤ length self.old.bytes) ⊎ (length self.new.bytes < 3342336)) }
-        ensures broken { IfErr result (λ failure. NoMore R.gives R.failed (λ bytes. (length bytes ≤ length self.old.bytes) ⊎ (length bytes < 3342336)) self.old self.new failure) }
-    {
-        if self.is_wide() {
-            return Ok(());
-        }
-        self.fill(ENOUGH)
     }
 }

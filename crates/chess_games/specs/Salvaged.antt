@@ -14,6 +14,7 @@ use Rattle.chess_collection.specs.Handling.{GoesOver}
 use Rattle.chess_collection.specs.Windows.{Window}
 use Rattle.chess_collection.specs.declared.going.Totals.{Totals}
 use Rattle.chess_collection.specs.declared.handler.Fate.{Fate}
+use Rattle.chess_collection.specs.declared.handler.Fate.TheVariants as fates
 use Rattle.chess_collection.specs.declared.handler.Fate.TheVariants.{Read, Lost, Left}
 use Rattle.chess_items.specs.Abandoned.{GivesUp}
 use Rattle.chess_pgn.specs.Games.{Game}
@@ -61,7 +62,7 @@ lost_fate asked = if asked then Lost else Left
 
 abbrev pub fate_in : Bool → SalvagedEntry → Fate
 fate_in asked (Good game) = Read
-fate_in asked (Saved game) = Read
+fate_in asked (Saved game) = fates.Saved
 fate_in asked Passed = lost_fate asked
 
 -- numbers count from 1

@@ -8,7 +8,7 @@ ghost use Rattle.chess_pgn.specs.steps.GameCode.{game_of};
 ghost use Rattle.chess_repair.specs.Letters.{IsInLetters};
 ghost use Rattle.chess_salvage.specs.Endings.{ComesLast, is_end};
 ghost use Rattle.chess_salvage.specs.Salvaging.{IsSalvaged};
-ghost use Rattle.chess_collection.specs.Handling.{GoesOver};
+ghost use Rattle.chess_collection.specs.Handling.{GoesOver, IsEarly};
 ghost use Rattle.chess_collection.specs.Windows.{KnowsItsEnd};
 ghost use Rattle.chess_games.specs.Forms.{head_in};
 ghost use Rattle.chess_games.specs.Parts.{is_in};
@@ -134,7 +134,7 @@ impl<'a> Saver<'a> {
         let cuts = found.cuts.len() as u64;
         Ok(Handled {
             used: found.used,
-            fate: Fate::Read,
+            fate: Fate::Saved,
             repaired: (found.repairs.len() as u64).saturating_add(cuts),
             text,
         })
@@ -243,8 +243,62 @@ impl<'a> Saver<'a> {
     // The same of a game with letters at these places written otherwise, where it is read.
     fn letters(&self, place: Place, places: &[usize], used: usize, fate: Fate) -> u64 {
         match fate {
-            Fate::Read => self.report_letters(place, places, used),
+            Fate::Read | Fate::Saved => self.report_letters(place, places, used),
             Fate::Lost | Fate::Left => 0,
+        }
+    }
+}
+
+impl<'a> Saver<'a> {
+    // What becomes of the good game that a text in the standard's letters begins with, if it ends before the last byte.
+    fn early_spelt(&self, place: Place, bytes: &[u8]) -> Result<Option<Handled>, Failure>
+        requires first { 1 ≤ place.number }
+        requires few { place.number ≤ 144115188075855872 }
+        ensures early { IfOk result (λ found. IfSome found (λ h. IsEarly bytes.now h.used h.fate)) }
+        ensures row { IfOk result (λ found. IfSome found (λ h. IsSavedAs self.now.wanted.now.form self.now.wanted.now.part place.number place.offset bytes.now h.used h.fate h.text.items)) }
+        ensures memory { IfErr result (λ failure. failure ≡ by.Memory) }
+    {
+        match read_game(self.alloc, bytes) {
+            Ok(None) => Ok(None),
+            Ok(Some((game, used))) => {
+                if used >= bytes.len() {
+                    return Ok(None);
+                }
+                match self.written(place, &game) {
+                    Ok(text) => Ok(Some(Handled {
+                        used,
+                        fate: Fate::Read,
+                        repaired: 0,
+                        text,
+                    })),
+                    Err(_) => Err(Failure::Memory),
+                }
+            }
+            Err(fault) => match fault.kind {
+                FaultKind::Memory => Err(Failure::Memory),
+                _ => Ok(None),
+            },
+        }
+    }
+
+    // The same with the letters at these places counted and reported, where a game was found.
+    fn with_letters(&self, place: Place, places: &[usize], handled: Handled) -> Handled
+        ensures used { result.used ≡ handled.used }
+        ensures fate { result.fate ≡ handled.fate }
+        ensures text { result.text.items ≡ handled.text.items }
+    {
+        let Handled {
+            used,
+            fate,
+            repaired,
+            text,
+        } = handled;
+        let letters = self.letters(place, places, used, fate);
+        Handled {
+            used,
+            fate,
+            repaired: repaired.saturating_add(letters),
+            text,
         }
     }
 }
@@ -258,24 +312,31 @@ impl GameHandler for Saver<'_> {
     ghost white = { λ bytes. ComesLast bytes };
 
     #[tactic(auto, using(crate::proofs::SavingLemmas::saved_in))]
+    fn early(&self, place: Place, bytes: &[u8]) -> Result<Option<Handled>, Failure> {
+        match respell(self.alloc, self.wanted.letters, bytes) {
+            Ok(Some(respelled)) => match self.early_spelt(place, respelled.text.as_slice()) {
+                Ok(Some(handled)) => Ok(Some(self.with_letters(
+                    place,
+                    respelled.places.as_slice(),
+                    handled,
+                ))),
+                Ok(None) => Ok(None),
+                Err(failure) => Err(failure),
+            },
+            Ok(None) => self.early_spelt(place, bytes),
+            Err(_) => Err(Failure::Memory),
+        }
+    }
+
+    #[tactic(auto, using(crate::proofs::SavingLemmas::saved_in))]
     fn handle(&self, place: Place, bytes: &[u8]) -> Result<Option<Handled>, Failure> {
         match respell(self.alloc, self.wanted.letters, bytes) {
             Ok(Some(respelled)) => match self.spelt(place, respelled.text.as_slice()) {
-                Ok(Some(handled)) => {
-                    let Handled {
-                        used,
-                        fate,
-                        repaired,
-                        text,
-                    } = handled;
-                    let letters = self.letters(place, respelled.places.as_slice(), used, fate);
-                    Ok(Some(Handled {
-                        used,
-                        fate,
-                        repaired: repaired.saturating_add(letters),
-                        text,
-                    }))
-                }
+                Ok(Some(handled)) => Ok(Some(self.with_letters(
+                    place,
+                    respelled.places.as_slice(),
+                    handled,
+                ))),
                 Ok(None) => self.spelt(place, bytes),
                 Err(failure) => Err(failure),
             },

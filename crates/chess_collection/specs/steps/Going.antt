@@ -1,5 +1,6 @@
 -- Going over a collection, step by step.
 --   BreaksOff  no stretch comes: a read failed, or there may be no more, and all that came is at hand; or there was no memory
+--   IsEnough   the bytes at hand are looked at for a stretch: as many as for any, or all, or a good game ends before the last of them
 --   IsSent     what is written of stretches is sent, whatever was sent before; IsBroken, sending it broke off
 --   Finishes   how going over what is at hand ends, of which nothing more comes
 --   Fills      how going over a collection ends: what is written of its stretches is on the page or sent, or sending it broke off
@@ -10,8 +11,9 @@ use Rattle.chess_loop.specs.steps.Sending.{Sent}
 use Rattle.chess_command_line.specs.declared.collection.Failure.{Failure}
 use Rattle.chess_command_line.specs.declared.collection.Failure.TheVariants as by
 use Rattle.chess_collection.specs.declared.going.Totals.{Totals}
-use Rattle.chess_collection.specs.Handling.{Handles, HasTotals, IsCutShort, IsOpenEnd, Reaches, ReachesOn, Stretch, TilesLast, most_handled, written_of}
-use Rattle.chess_collection.specs.Windows.{Comes, ReadEnds, Loses, StayFew, Window}
+use Rattle.chess_collection.specs.declared.handler.Fate.{Fate}
+use Rattle.chess_collection.specs.Handling.{Handles, HasTotals, IsEarly, IsCutShort, IsOpenEnd, Reaches, ReachesOn, Stretch, TilesLast, most_handled, written_of}
+use Rattle.chess_collection.specs.Windows.{Comes, ReadEnds, IsWide, Loses, StayFew, Window}
 
 module _ {R : Type 0} (gives : R → List ℕ → R → Type 0) (failed : R → Bool) (ended : R → Type 0) (white : List ℕ → Type 0) where
   -- bytes came, and few are at hand
@@ -24,6 +26,9 @@ module _ {R : Type 0} (gives : R → List ℕ → R → Type 0) (failed : R → 
   BreaksOff old new by.Read = (last : Window R) × ComesFew old last × (last.has_ended ≡ false) × (new.bytes ≡ last.bytes) × ReadEnds gives failed last new.source
   BreaksOff old new by.Write = ⊥
   BreaksOff old new by.Memory = (last : Window R) × ComesFew old last × Loses gives failed last.source new.source
+
+abbrev pub IsEnough : {R : Type 0} → Window R → ℕ → Fate → Type 0
+IsEnough w used fate = IsWide w ⊎ IsEarly w.bytes used fate
 
 module _ (handles : Handles) {W : Type 0} (takes : W → List ℕ → W → Type 0) (write_failed : W → Bool) where
   -- what is written of stretches is sent

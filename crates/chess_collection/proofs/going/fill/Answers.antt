@@ -1,9 +1,12 @@
-use Rattle.std.proofs.Common.{◌∙◌, ◌≤◌, ◌+◌, ◌++◌, ℕ, List, length, drop, refl, ap, subst, arith}
+use Rattle.std.proofs.Common.{◌∙◌, ◌≤◌, ◌+◌, ◌++◌, ℕ, List, length, drop, refl, sym, ap, subst, arith, inl}
 use Rattle.chess_loop.specs.RunEnds.{Broken}
 use Rattle.chess_loop.specs.steps.Sending.{Sent}
 use Rattle.chess_collection.specs.Windows.{Window}
-use Rattle.chess_collection.specs.steps.Going.{BreaksOff}
-use Rattle.chess_collection.proofs.GoingLemmas.{comes_few, ends_all, ends_many, ends_short, finished, more_at_hand, more_written, nothing_yet, one_stretch, part_of, part_of_one, some_holds, sound_on}
+use Rattle.chess_collection.specs.steps.Going.{BreaksOff, Fills, IsEnough}
+use Rattle.chess_collection.proofs.WindowLemmas.{comes_none}
+use Rattle.std.specs.Prelude.{Err}
+use Rattle.chess_command_line.specs.declared.collection.Failure.TheVariants as by
+use Rattle.chess_collection.proofs.GoingLemmas.{comes_few, ends_all, ends_many, ends_short, finished, more_at_hand, more_written, nothing_yet, one_stretch, part_of, part_of_one, some_holds, sound_on, starved}
 use Rattle.chess_collection.proofs.going.fill.Goals as goal
 
 -- nothing is read
@@ -15,11 +18,21 @@ loop-before-init g c = record {
       c.requires.reads c.requires.sound c.none-totals.result.bytes c.none-totals.result.passed c.none-totals.result.bad c.none-totals.ensures.bytes c.none-totals.ensures.passed c.none-totals.ensures.bad;
 }
 
--- writing what is on the page broke off
+-- the handler had no memory
 pub returns-in-Err : goal.returns-in-Err
 returns-in-Err g c =
+    subst
+    (λ f. Fills (λ n o b u is t. g.H.GameHandler.handles c.args.handler.now n o b u is t) g.W.Sink.takes g.W.Sink.failed g.R.Source.gives g.R.Source.failed g.R.Source.ended g.H.GameHandler.white c.args.window.now c.args.page.now c.args.writer.now c.loop-before.window c.loop-before.page c.loop-before.writer (Err f))
+    (sym c.in-Err.ensures.memory)
+    (ends_short g.R.Source.gives g.R.Source.failed (λ n o b u is t. g.H.GameHandler.handles c.args.handler.now n o b u is t) g.H.GameHandler.white g.W.Sink.takes g.W.Sink.failed g.R.Source.ended c.args.window.now c.args.page.now c.args.writer.now
+    c.loop-before.window c.loop-before.window c.loop-before.page c.loop-before.writer c.loop-before.before c.loop-before.totals.bytes c.loop-before.totals.passed c.loop-before.totals.bad c.loop-before.invariant.so_far
+    (starved g.R.Source.gives g.R.Source.failed g.R.Source.ended g.H.GameHandler.white c.loop-before.window c.loop-before.window by.Memory (comes_none g.R.Source.gives g.R.Source.failed c.loop-before.window) c.loop-before.invariant.sound (inl (omega arith)) refl))
+
+-- writing what is on the page broke off
+pub returns-in-Err-let_go : goal.returns-in-Err-let_go
+returns-in-Err-let_go g c =
     part_of g.R.Source.gives g.R.Source.failed (λ n o b u is t. g.H.GameHandler.handles c.args.handler.now n o b u is t) g.H.GameHandler.white g.W.Sink.takes g.W.Sink.failed g.R.Source.ended c.args.window.now c.args.page.now c.args.writer.now c.loop-before.window c.loop-before.page
-    c.loop-before.writer c.let_go.new.writer c.loop-before.before c.loop-before.totals.bytes c.loop-before.totals.passed c.loop-before.totals.bad c.loop-before.invariant.so_far c.in-Err.ensures
+    c.loop-before.writer c.let_go.new.writer c.loop-before.before c.loop-before.totals.bytes c.loop-before.totals.passed c.loop-before.totals.bad c.loop-before.invariant.so_far c.in-Err-let_go.ensures
 
 -- there was no memory
 pub returns-in-Err-Memory : goal.returns-in-Err-Memory
@@ -27,7 +40,7 @@ returns-in-Err-Memory g c =
     ends_short g.R.Source.gives g.R.Source.failed (λ n o b u is t. g.H.GameHandler.handles c.args.handler.now n o b u is t) g.H.GameHandler.white g.W.Sink.takes g.W.Sink.failed g.R.Source.ended c.args.window.now c.args.page.now c.args.writer.now
     c.loop-before.window c.next_handled.new.window c.let_go.new.page c.let_go.new.writer c.loop-before.before c.loop-before.totals.bytes c.loop-before.totals.passed c.loop-before.totals.bad
     (more_written g.R.Source.gives g.R.Source.failed (λ n o b u is t. g.H.GameHandler.handles c.args.handler.now n o b u is t) g.H.GameHandler.white g.W.Sink.takes g.W.Sink.failed g.R.Source.ended c.args.window.now c.args.page.now c.args.writer.now c.loop-before.window c.loop-before.page
-    c.let_go.new.page c.loop-before.writer c.let_go.new.writer c.loop-before.before c.loop-before.totals.bytes c.loop-before.totals.passed c.loop-before.totals.bad c.loop-before.invariant.so_far c.in-Ok.ensures)
+    c.let_go.new.page c.loop-before.writer c.let_go.new.writer c.loop-before.before c.loop-before.totals.bytes c.loop-before.totals.passed c.loop-before.totals.bad c.loop-before.invariant.so_far c.in-Ok-let_go.ensures)
     (subst (λ f. BreaksOff g.R.Source.gives g.R.Source.failed g.R.Source.ended g.H.GameHandler.white c.loop-before.window c.next_handled.new.window f) c.in-Err-Memory.field-0-is c.in-Err-Memory.ensures.broken)
 
 -- no write is made there
@@ -40,7 +53,7 @@ returns-in-Err-Read g c =
     finished g.R.Source.gives g.R.Source.failed (λ n o b u is t. g.H.GameHandler.handles c.args.handler.now n o b u is t) g.H.GameHandler.white g.W.Sink.takes g.W.Sink.failed g.R.Source.ended c.args.window.now c.args.page.now c.args.writer.now
     c.loop-before.window c.next_handled.new.window c.finish.new.window c.let_go.new.page c.finish.new.page c.let_go.new.writer c.finish.new.writer c.loop-before.before c.loop-before.totals.bytes c.loop-before.totals.passed c.loop-before.totals.bad
     (more_written g.R.Source.gives g.R.Source.failed (λ n o b u is t. g.H.GameHandler.handles c.args.handler.now n o b u is t) g.H.GameHandler.white g.W.Sink.takes g.W.Sink.failed g.R.Source.ended c.args.window.now c.args.page.now c.args.writer.now c.loop-before.window c.loop-before.page
-    c.let_go.new.page c.loop-before.writer c.let_go.new.writer c.loop-before.before c.loop-before.totals.bytes c.loop-before.totals.passed c.loop-before.totals.bad c.loop-before.invariant.so_far c.in-Ok.ensures)
+    c.let_go.new.page c.loop-before.writer c.let_go.new.writer c.loop-before.before c.loop-before.totals.bytes c.loop-before.totals.passed c.loop-before.totals.bad c.loop-before.invariant.so_far c.in-Ok-let_go.ensures)
     (subst (λ f. BreaksOff g.R.Source.gives g.R.Source.failed g.R.Source.ended g.H.GameHandler.white c.loop-before.window c.next_handled.new.window f) c.in-Err-Read.field-0-is c.in-Err-Read.ensures.broken) c.finish.ensures.source c.finish.result c.finish.ensures.finishes
 
 -- white space is left
@@ -52,9 +65,9 @@ returns-in-Ok-None g c =
     (more_at_hand g.R.Source.gives g.R.Source.failed (λ n o b u is t. g.H.GameHandler.handles c.args.handler.now n o b u is t) g.H.GameHandler.white g.W.Sink.takes g.W.Sink.failed g.R.Source.ended c.args.window.now c.args.page.now c.args.writer.now c.loop-before.window
     c.next_handled.new.window c.let_go.new.page c.let_go.new.writer c.loop-before.before c.loop-before.totals.bytes c.loop-before.totals.passed c.loop-before.totals.bad
     (more_written g.R.Source.gives g.R.Source.failed (λ n o b u is t. g.H.GameHandler.handles c.args.handler.now n o b u is t) g.H.GameHandler.white g.W.Sink.takes g.W.Sink.failed g.R.Source.ended c.args.window.now c.args.page.now c.args.writer.now c.loop-before.window c.loop-before.page
-    c.let_go.new.page c.loop-before.writer c.let_go.new.writer c.loop-before.before c.loop-before.totals.bytes c.loop-before.totals.passed c.loop-before.totals.bad c.loop-before.invariant.so_far c.in-Ok.ensures)
+    c.let_go.new.page c.loop-before.writer c.let_go.new.writer c.loop-before.before c.loop-before.totals.bytes c.loop-before.totals.passed c.loop-before.totals.bad c.loop-before.invariant.so_far c.in-Ok-let_go.ensures)
     (comes_few g.R.Source.gives g.R.Source.failed g.R.Source.ended g.H.GameHandler.white c.loop-before.window c.next_handled.new.window c.in-Ok-None.ensures.came c.in-Ok-None.ensures.sound c.in-Ok-None.ensures.few))
-    end.0 (c.in-Ok-None.ensures.sound.1 end.0) end.1 c.with_rest.ensures.games (c.with_rest.ensures.bytes ∙ ap (λ (t : List ℕ). c.loop-before.totals.bytes + length t) c.unread.ensures)
+    end.0 (c.in-Ok-None.ensures.sound.1 end.0) end.1 c.with_rest.ensures.games (c.with_rest.ensures.bytes ∙ ap (λ (t : List ℕ). c.loop-before.totals.bytes + length t) c.unread-in-Ok-None.ensures)
     c.with_rest.ensures.passed c.with_rest.ensures.bad
 
 -- writing what is written of a stretch broke off
@@ -68,9 +81,9 @@ returns-in-Err-put_text g c =
     (more_at_hand g.R.Source.gives g.R.Source.failed (λ n o b u is t. g.H.GameHandler.handles c.args.handler.now n o b u is t) g.H.GameHandler.white g.W.Sink.takes g.W.Sink.failed g.R.Source.ended c.args.window.now c.args.page.now c.args.writer.now c.loop-before.window u
     c.let_go.new.page c.let_go.new.writer c.loop-before.before c.loop-before.totals.bytes c.loop-before.totals.passed c.loop-before.totals.bad
     (more_written g.R.Source.gives g.R.Source.failed (λ n o b u is t. g.H.GameHandler.handles c.args.handler.now n o b u is t) g.H.GameHandler.white g.W.Sink.takes g.W.Sink.failed g.R.Source.ended c.args.window.now c.args.page.now c.args.writer.now c.loop-before.window c.loop-before.page
-    c.let_go.new.page c.loop-before.writer c.let_go.new.writer c.loop-before.before c.loop-before.totals.bytes c.loop-before.totals.passed c.loop-before.totals.bad c.loop-before.invariant.so_far c.in-Ok.ensures)
+    c.let_go.new.page c.loop-before.writer c.let_go.new.writer c.loop-before.before c.loop-before.totals.bytes c.loop-before.totals.passed c.loop-before.totals.bad c.loop-before.invariant.so_far c.in-Ok-let_go.ensures)
     (comes_few g.R.Source.gives g.R.Source.failed g.R.Source.ended g.H.GameHandler.white c.loop-before.window c.next_handled.new.window c.in-Ok-Some.ensures.came c.in-Ok-Some.ensures.sound c.in-Ok-Some.ensures.few))
-    c.in-Ok-Some.ensures.wide (some_holds (λ x. x.used ≤ length u.bytes) c.in-Ok-Some.field-0 h c.in-Ok-Some.field-0-is c.in-Ok-Some.ensures.fits)
+    (some_holds (λ x. IsEnough u x.used x.fate) c.in-Ok-Some.field-0 h c.in-Ok-Some.field-0-is c.in-Ok-Some.ensures.enough) (some_holds (λ x. x.used ≤ length u.bytes) c.in-Ok-Some.field-0 h c.in-Ok-Some.field-0-is c.in-Ok-Some.ensures.fits)
     (some_holds (λ x. g.H.GameHandler.handles c.args.handler.now (c.loop-before.before + 1) c.loop-before.totals.bytes u.bytes x.used x.fate x.text.items) c.in-Ok-Some.field-0 h c.in-Ok-Some.field-0-is c.in-Ok-Some.ensures.handled) refl refl refl refl c.put_text.new.writer
     (subst (λ more. (start : g.row.W.Denot) (t : List ℕ) → Sent g.W.Sink.takes g.W.Sink.failed start t c.let_go.new.page c.let_go.new.writer → Broken g.W.Sink.takes g.W.Sink.failed start (t ++ more) c.put_text.new.writer) c.as_slice.ensures.value c.in-Err-put_text.ensures)
 
@@ -88,9 +101,9 @@ loop-before-preserved g c =
           (more_at_hand g.R.Source.gives g.R.Source.failed (λ n o b u is t. g.H.GameHandler.handles c.args.handler.now n o b u is t) g.H.GameHandler.white g.W.Sink.takes g.W.Sink.failed g.R.Source.ended c.args.window.now c.args.page.now c.args.writer.now c.loop-before.window u
           c.let_go.new.page c.let_go.new.writer c.loop-before.before c.loop-before.totals.bytes c.loop-before.totals.passed c.loop-before.totals.bad
           (more_written g.R.Source.gives g.R.Source.failed (λ n o b u is t. g.H.GameHandler.handles c.args.handler.now n o b u is t) g.H.GameHandler.white g.W.Sink.takes g.W.Sink.failed g.R.Source.ended c.args.window.now c.args.page.now c.args.writer.now c.loop-before.window c.loop-before.page
-          c.let_go.new.page c.loop-before.writer c.let_go.new.writer c.loop-before.before c.loop-before.totals.bytes c.loop-before.totals.passed c.loop-before.totals.bad c.loop-before.invariant.so_far c.in-Ok.ensures)
+          c.let_go.new.page c.loop-before.writer c.let_go.new.writer c.loop-before.before c.loop-before.totals.bytes c.loop-before.totals.passed c.loop-before.totals.bad c.loop-before.invariant.so_far c.in-Ok-let_go.ensures)
           (comes_few g.R.Source.gives g.R.Source.failed g.R.Source.ended g.H.GameHandler.white c.loop-before.window c.next_handled.new.window c.in-Ok-Some.ensures.came c.in-Ok-Some.ensures.sound c.in-Ok-Some.ensures.few))
-          c.in-Ok-Some.ensures.wide (some_holds (λ x. x.used ≤ length u.bytes) c.in-Ok-Some.field-0 h c.in-Ok-Some.field-0-is c.in-Ok-Some.ensures.fits)
+          (some_holds (λ x. IsEnough u x.used x.fate) c.in-Ok-Some.field-0 h c.in-Ok-Some.field-0-is c.in-Ok-Some.ensures.enough) (some_holds (λ x. x.used ≤ length u.bytes) c.in-Ok-Some.field-0 h c.in-Ok-Some.field-0-is c.in-Ok-Some.ensures.fits)
           (some_holds (λ x. g.H.GameHandler.handles c.args.handler.now (c.loop-before.before + 1) c.loop-before.totals.bytes u.bytes x.used x.fate x.text.items) c.in-Ok-Some.field-0 h c.in-Ok-Some.field-0-is c.in-Ok-Some.ensures.handled) c.use_first.ensures.bytes c.use_first.ensures.source c.use_first.ensures.ended c.use_first.ensures.reads c.put_text.new.page c.put_text.new.writer c.add.new.self.bytes
           c.add.new.self.passed c.add.new.self.bad
           (subst (λ more. (start : g.row.W.Denot) (t : List ℕ) → Sent g.W.Sink.takes g.W.Sink.failed start t c.let_go.new.page c.let_go.new.writer → Sent g.W.Sink.takes g.W.Sink.failed start (t ++ more) c.put_text.new.page c.put_text.new.writer) c.as_slice.ensures.value c.in-Ok-put_text.ensures)

@@ -1,68 +1,29 @@
-use Rattle.std.proofs.Common.{◌≤◌, ◌<◌, ◌+◌, ◌*◌, ◌⊎◌, inl, inr, ◌∙◌, List, ℕ, ◌++◌, length, arith, ap, append_assoc, refl, subst}
-use Rattle.chess_collection.specs.Windows.{StayFew}
+use Rattle.chess_collection.specs.Windows.{Comes, StayFew}
 use Rattle.chess_collection.specs.steps.Going.{BreaksOff}
-use Rattle.chess_collection.proofs.GoingLemmas.{broken_off, few_after_white, starved, wide_on}
-use Rattle.chess_collection.proofs.WindowLemmas.{comes_none, comes_on, handed_on}
+use Rattle.chess_collection.proofs.GoingLemmas.{both_few, both_off, on_both, on_err}
+use Rattle.chess_collection.proofs.WindowLemmas.{comes_none, comes_on}
 use Rattle.chess_collection.proofs.going.next_handled.Goals as goal
 
--- reading on broke off
-pub returns-in_err-widen-clause-broken : goal.returns-in_err-widen-clause-broken
-returns-in_err-widen-clause-broken g c =
-    handed_on (λ f. BreaksOff g.R.Source.gives g.R.Source.failed g.R.Source.ended g.H.GameHandler.white c.args.window.now c.widen.new.self f) c.from_residual.result c.in_err-widen.field-0.0 c.from_residual.ensures.1
-    (broken_off g.R.Source.gives g.R.Source.failed g.R.Source.ended g.H.GameHandler.white (λ bytes. (length bytes ≤ length c.args.window.now.bytes) ⊎ (length bytes < 3342336)) c.args.window.now c.args.window.now c.widen.new.self
-    c.in_err-widen.field-0.0 (comes_none g.R.Source.gives g.R.Source.failed c.args.window.now) few c.in_err-widen.ensures.broken)
-  where
-    few : (more : List ℕ) → (length (c.args.window.now.bytes ++ more) ≤ length c.args.window.now.bytes) ⊎ (length (c.args.window.now.bytes ++ more) < 3342336)
-        → StayFew g.H.GameHandler.white c.args.window.now.bytes (c.args.window.now.bytes ++ more)
-    few more (inl less) = inl less
-    few more (inr less) = inr (inl (omega (arith, less)))
+-- it was found early
+pub returns-in-Some-clause-came : goal.returns-in-Some-clause-came
+returns-in-Some-clause-came g c = comes_none g.R.Source.gives g.R.Source.failed c.args.window.now
 
-pub returns-in_err-handled-clause-broken : goal.returns-in_err-handled-clause-broken
-returns-in_err-handled-clause-broken g c =
-    handed_on (λ f. BreaksOff g.R.Source.gives g.R.Source.failed g.R.Source.ended g.H.GameHandler.white c.args.window.now c.loop-handled.window f) c.from_residual-in_err-handled.result c.in_err-handled.field-0.0 c.from_residual-in_err-handled.ensures.1
-    (starved g.R.Source.gives g.R.Source.failed g.R.Source.ended g.H.GameHandler.white c.args.window.now c.loop-handled.window c.in_err-handled.field-0.0 c.loop-handled.invariant.comes c.loop-handled.invariant.knows c.loop-handled.invariant.few c.in_err-handled.ensures.memory)
+-- more was read for it
+pub returns-clause-came : goal.returns-clause-came
+returns-clause-came g c =
+    on_both c.decided.result
+    (λ (x : Comes g.R.Source.gives g.R.Source.failed c.widen.new.window c.decided.new.window) _. comes_on g.R.Source.gives g.R.Source.failed c.args.window.now c.widen.new.window c.decided.new.window c.in_ok-handled.ensures.came x) c.decided.ensures.came c.decided.ensures.came
 
-pub returns-in_err-read_more-clause-broken : goal.returns-in_err-read_more-clause-broken
-returns-in_err-read_more-clause-broken g c =
-    let u = c.loop-handled.window in
-    handed_on (λ f. BreaksOff g.R.Source.gives g.R.Source.failed g.R.Source.ended g.H.GameHandler.white c.args.window.now c.read_more.new.self f) c.from_residual-in_err-read_more.result c.in_err-read_more.field-0.0 c.from_residual-in_err-read_more.ensures.1
-    (broken_off g.R.Source.gives g.R.Source.failed g.R.Source.ended g.H.GameHandler.white (λ bytes. length bytes ≤ length u.bytes) c.args.window.now u c.read_more.new.self
-    c.in_err-read_more.field-0.0 c.loop-handled.invariant.comes (λ more less. few_after_white g.H.GameHandler.white c.args.window.now.bytes u.bytes more (u.bytes ++ more) (subst g.H.GameHandler.white c.unread.ensures (c.in_ok-handled.ensures.white c.in_default.is)) refl (omega (arith, less))) c.in_err-read_more.ensures.broken)
+pub returns-clause-few : goal.returns-clause-few
+returns-clause-few g c =
+    on_both c.decided.result
+    (λ (x : Comes g.R.Source.gives g.R.Source.failed c.widen.new.window c.decided.new.window) (few : StayFew g.H.GameHandler.white c.widen.new.window.bytes c.decided.new.window.bytes).
+    both_few g.H.GameHandler.white c.args.window.now.bytes c.widen.new.window.bytes c.decided.new.window.bytes c.in_ok-handled.ensures.few x.bytes x.whole few)
+    c.decided.ensures.came c.decided.ensures.few
 
-pub returns-in_err-fill-clause-broken : goal.returns-in_err-fill-clause-broken
-returns-in_err-fill-clause-broken g c =
-    let u = c.loop-handled.window in
-    let m = c.read_more.new.self in
-    handed_on (λ f. BreaksOff g.R.Source.gives g.R.Source.failed g.R.Source.ended g.H.GameHandler.white c.args.window.now c.fill.new.self f) c.from_residual-in_err-fill.result c.in_err-fill.field-0.0 c.from_residual-in_err-fill.ensures.1
-    (broken_off g.R.Source.gives g.R.Source.failed g.R.Source.ended g.H.GameHandler.white (λ bytes. (length bytes ≤ length m.bytes) ⊎ (length bytes < c.saturating_mul-most.result + 65536)) c.args.window.now m c.fill.new.self
-    c.in_err-fill.field-0.0 (comes_on g.R.Source.gives g.R.Source.failed c.args.window.now u m c.loop-handled.invariant.comes c.in_ok-read_more.ensures.came) few c.in_err-fill.ensures.broken)
-  where
-    at_most : (more : List ℕ) → (length (c.read_more.new.self.bytes ++ more) ≤ length c.read_more.new.self.bytes) ⊎ (length (c.read_more.new.self.bytes ++ more) < c.saturating_mul-most.result + 65536)
-        → length (c.read_more.new.self.bytes ++ more) ≤ 2 * length c.loop-handled.window.bytes + 65536
-    at_most more (inl less) = (let n = c.in_ok-read_more.ensures.few in omega (arith, less, n))
-    at_most more (inr less) = (let n = c.saturating_mul-most.ensures in let m = ap length c.unread-in-loop-handled.ensures in omega (arith, less, n, m))
-
-    few : (more : List ℕ) → (length (c.read_more.new.self.bytes ++ more) ≤ length c.read_more.new.self.bytes) ⊎ (length (c.read_more.new.self.bytes ++ more) < c.saturating_mul-most.result + 65536)
-        → StayFew g.H.GameHandler.white c.args.window.now.bytes (c.read_more.new.self.bytes ++ more)
-    few more less =
-        let came = c.in_ok-read_more.ensures.came in
-        few_after_white g.H.GameHandler.white c.args.window.now.bytes c.loop-handled.window.bytes (came.bytes ++ more) (c.read_more.new.self.bytes ++ more) (subst g.H.GameHandler.white c.unread.ensures (c.in_ok-handled.ensures.white c.in_default.is))
-        (ap (λ (z : List ℕ). z ++ more) came.whole ∙ append_assoc c.loop-handled.window.bytes came.bytes more) (at_most more less)
-
--- white space, and more bytes
-pub loop-handled-preserved : goal.loop-handled-preserved
-loop-handled-preserved g c =
-    let u = c.loop-handled.window in
-    let more = comes_on g.R.Source.gives g.R.Source.failed u c.read_more.new.self c.fill.new.self c.in_ok-read_more.ensures.came c.in_ok-fill.ensures.came in
-    record {
-      comes = comes_on g.R.Source.gives g.R.Source.failed c.args.window.now u c.fill.new.self c.loop-handled.invariant.comes more;
-      knows = c.in_ok-fill.ensures.sound;
-      wide = wide_on g.R.Source.gives g.R.Source.failed u c.fill.new.self more c.loop-handled.invariant.wide;
-      few =
-          few_after_white g.H.GameHandler.white c.args.window.now.bytes u.bytes more.bytes c.fill.new.self.bytes (subst g.H.GameHandler.white c.unread.ensures (c.in_ok-handled.ensures.white c.in_default.is)) more.whole
-          (at_most c.in_ok-fill.ensures.few);
-    }
-  where
-    at_most : (length c.fill.new.self.bytes ≤ length c.read_more.new.self.bytes) ⊎ (length c.fill.new.self.bytes < c.saturating_mul-most.result + 65536) → length c.fill.new.self.bytes ≤ 2 * length c.loop-handled.window.bytes + 65536
-    at_most (inl less) = (let n = c.in_ok-read_more.ensures.few in omega (arith, less, n))
-    at_most (inr less) = (let n = c.saturating_mul-most.ensures in let m = ap length c.unread-in-loop-handled.ensures in omega (arith, less, n, m))
+pub returns-clause-broken : goal.returns-clause-broken
+returns-clause-broken g c =
+    on_err c.decided.result
+    (λ failure (breaks : BreaksOff g.R.Source.gives g.R.Source.failed g.R.Source.ended g.H.GameHandler.white c.widen.new.window c.decided.new.window failure).
+    both_off g.R.Source.gives g.R.Source.failed g.R.Source.ended g.H.GameHandler.white c.args.window.now c.widen.new.window c.decided.new.window failure c.in_ok-handled.ensures.came c.in_ok-handled.ensures.few breaks)
+    c.decided.ensures.broken

@@ -1,6 +1,6 @@
 use Rattle.std.proofs.Common.{◌+◌, if◌then◌else◌}
 use Rattle.chess_collection.specs.Windows.{Comes, IsWide, KnowsItsEnd, StayFew}
-use Rattle.chess_collection.proofs.going.next_handled.Given as goal
+use Rattle.chess_collection.proofs.going.decided.Given as goal
 
 -- more bytes came
 abbrev pub invariant-loop-handled : goal.invariant-loop-handled
