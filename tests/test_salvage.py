@@ -9,6 +9,7 @@ import random
 import re
 import subprocess
 import sys
+import time
 import unittest
 
 import runs
@@ -159,6 +160,60 @@ class Salvage(unittest.TestCase):
         for words in (["--letters", "KDTLS"], *(["--salvage", "--letters", wrong] for wrong in ("", "KDTL", "KDTLL", "kdtls", "KDTLSX"))):
             ended = subprocess.run([GAMES, *words], input=b"", capture_output=True, timeout=runs.MOST_SECONDS)
             self.assertEqual((ended.returncode, b"--letters" in ended.stderr), (1, True), words)
+
+    def test_letters_of_tags_and_comments_stay(self):
+        """Only letters among the moves change, even if a tag needs repair."""
+        text = '[White "Dvoretsky, S"]\n[Black "Tal]\n[Site Sd1]\n\n1. Sf3 {Sf3 Dd1} Sf6 (1... Sc6 {Tb1}) ; Tg1\n%Tg1\n2. Tg1 *'
+        saved = ran(text.encode(), "--salvage", "--letters", "KDTLS")
+        for tag in (b'[White "Dvoretsky, S"]', b'[Black "Tal"]', b'[Site "Sd1"]'):
+            self.assertIn(tag, saved.stdout)
+        self.assertEqual(movetexts(saved.stdout), ["1. Nf3 {Sf3 Dd1} 1... Nf6 {Tg1} (1... Nc6 {Tb1}) 2. Rg1 *"])
+        self.assertEqual(saved.stderr.count(b"Letter\n"), 4)
+
+    def test_a_move_keeps_its_man(self):
+        """A repair never turns the file b into the bishop."""
+        for move, written in (("b:c3", "bxc3"), ("B:c3", "Bxc3"), ("b2-b3", "b3"), ("Bd2-c1", "Bc1")):
+            saved = self.check(f'[FEN "4k3/8/8/8/8/2n5/1P1B4/4K3 w - - 0 1"]\n\n1. {move} *\n'.encode())
+            self.assertEqual(movetexts(saved.stdout), [f"1. {written} *"])
+
+    def test_a_tag_keeps_its_value(self):
+        """A value keeps its punctuation, and its quotation marks are escaped; a name loses its hyphen."""
+        for tag, written in (
+            ('[Date "2024.01.15]', '[Date "2024.01.15"]'),
+            ("[White O'Brien, J. (2400)]", '[White "O\'Brien, J. (2400)"]'),
+            ('[Site  " C:\\x "\\"" y"  ', '[Site "C:\\\\x \\"\\"\\" y"]'),
+            ('[Time-Control "40/7200:3600"]', '[TimeControl "40/7200:3600"]'),
+            ('[Annotator "' + "a. " * 2_000 + "]", '[Annotator "' + "a. " * 1_999 + 'a."]'),
+        ):
+            saved = self.check(f"{tag}\n\n1. e4 *\n".encode())
+            self.assertIn(written.encode(), saved.stdout)
+
+    def test_a_fen_keeps_its_men(self):
+        """A repair writes castling rights and missing counters, and leaves the tag out if it has no position."""
+        men = "r3k2r/8/8/8/8/8/8/R3K2R w"
+        for fields, written in ((f"{men} HAha - 0 1", f"{men} KQkq - 0 1"), (f"{men} KAk - 3 9", f"{men} KQk - 3 9"), (f"{men} KQkq", f"{men} KQkq - 0 1"), (f"{men} K - 4", f"{men} K - 4 1")):
+            saved = self.check(f'[FEN "{fields}"]\n[SetUp "1"]\n\n1. Ke2 *\n'.encode())
+            self.assertIn(f'[FEN "{written}"]\n'.encode(), saved.stdout)
+        for fields in ("", " ", "?", "???? "):
+            self.assertNotIn(b"FEN", self.check(f'[FEN "{fields}"]\n\n1. e4 *\n'.encode()).stdout)
+        self.assertEqual(self.check(f'[FEN "{men} XYZ - 0 1"]\n\n1. Ke2 *\n'.encode()).stdout, b"")
+
+    def test_time_grows_with_the_text(self):
+        """Each of these texts once took the square of its length."""
+        for text in (
+            b'\n\n[a""]{' * 65_536,
+            b'[a""]{' * 87_381,
+            b"1. e4 (" * 65_536 + b"\n[" + b" " * 65_536 + b"a",
+            b"1. e4 " + b"," * 524_288,
+            b"1. e4 " + b"\xe2\x99\x98" * 174_762,
+            b"1. e4 (" + b" [x" * 174_762,
+            b"[a b]" * 104_857,
+            b'[a "b' * 104_857,
+        ):
+            with self.subTest(text=text[:12]):
+                begun = time.monotonic()
+                ran(text, "--salvage")
+                self.assertLess(time.monotonic() - begun, 60)
 
     def test_the_end_of_a_file(self):
         """Whitespace, NUL and ^Z after the last game, at most 1,048,576 bytes, are no game; strict reading has a fault there, as ever."""
