@@ -1,6 +1,6 @@
 // Keeps the page's own files of one version in the browser, so that it opens without a net. A new version replaces them as a whole.
 // The list is written by tools/offline.
-const VERSION = '44ae6ad12126ef11';
+const VERSION = '68a3511246fecfbc';
 const KEPT = {
   'about.html': 'sha256-r1CC3PSgnT3IeddTCQ+9Qc4Ht/lyiBkQBzsxB+mInYc=',
   'analysis.js': 'sha256-hJYnAoGHEQGyPt764FR/D4jDfFQ4+x1gz6O6vkj5TUM=',
@@ -18,7 +18,7 @@ const KEPT = {
   'history.js': 'sha256-RLVHLQ+yLGfFvQ3BPW1pGbtaJkvMxkPEIXhM7IR8hYE=',
   'icon.svg': 'sha256-MIqbBfrY8jneIrbk+mcJq7TJSYDbHm5LwjQhbWTpmWU=',
   'index.html': 'sha256-o21pwKXsM2Kbh0fXztp1Uq4FXQMn2DGFpbXsYLJgdXY=',
-  'jatshegi.wasm': 'sha256-98P1G3cRx3v/IPMxr52gDZTUf7pEfq+Y78fyxvGpujw=',
+  'jatshegi.wasm': 'sha256-NGAkeputUAKuv3RBfHWO5B2EV0xwlUOrsCUsmfMuOCc=',
   'jatshegi/src/boards.js': 'sha256-4q1gA9sVJ0QEL+j/WaH/7jQuueHiq5pwfpy1xB1kZHU=',
   'jatshegi/src/bytes.js': 'sha256-L1KCUkgWQXHkntmbRa68OSfnQGFQUXUkQyDSGxZvCyE=',
   'jatshegi/src/compile.js': 'sha256-W5YCPdzEjIwsTakE2+p5y4KsZsbNwjHyMkzcXGp/evQ=',
