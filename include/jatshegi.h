@@ -12,33 +12,38 @@
  *         jatshegi_board_free(&board);
  *     }
  *
- * A board is a game tree with a cursor, as in the program's `board`: a move that is played is a step to the child that has it, or to a new one. `back`
- * leaves it in the tree; `undo` takes it back, and leaves the tree as it was before. All that is asked is asked of the position at the cursor, or of the line
- * of moves from the root to it.
+ * A board is a game tree with a cursor, as in the command `chess board`. Playing a move steps to the child with that move; if there is no such child, the call
+ * adds one. `back` steps to the parent and keeps the node; `undo` can also remove it again. Every query is about the position at the cursor or the moves from
+ * the root to it.
  *
- * What a caller owes:
- *   - A board begins as JATSHEGI_NO_BOARD, which is zeros, and after that only these functions write to it. A board that is in use is never copied. Its bytes may
- *     be moved, as `realloc` and a move of C++ do: the old place is then neither used nor freed. The same holds of a `struct jatshegi_stop`.
- *   - If a parameter is `const struct jatshegi_board *` or `const struct jatshegi_stop *`, the call writes to the object, and leaves it unchanged when it returns.
- *     So the object is in writable memory: it is never itself `const`, even if it is empty. The rule of one call at a time also holds of such a call.
- *   - The keys are filled once, and stay where they are, unchanged, for as long as there is a board with them. Any number of boards share them.
- *   - One call at a time uses a board. It may go to another thread, where a lock, or a thread's start or end, orders the calls. Boards of different
- *     threads are independent: there is no other state.
- *   - Pointers are aligned as C aligns their types, and not null. (NULL, 0) may stand for an empty text or an empty room, so that a length can be asked for. An
- *     output overlaps nothing else that the call is given; a text that is read is not changed meanwhile. Lengths are at most PTRDIFF_MAX bytes.
- *   - C and C++ that include this header may free a null pointer: two macros at its end do nothing then. The library's own functions take no null pointer. Callers
- *     by a pointer to the function, by dlsym or from another language look for null themselves.
- *   - `malloc`, `realloc` and `free` are those of one allocator; no call comes from a signal handler.
+ * Rules for the caller:
+ *   - Begin each board with JATSHEGI_NO_BOARD, which is all zeros. After that, only these functions write to it. Never copy a board that is in use. You may move
+ *     its bytes, as `realloc` and a C++ move do; then neither use nor free the old place. These rules also apply to a `struct jatshegi_stop`.
+ *   - A call with a parameter `const struct jatshegi_board *` or `const struct jatshegi_stop *` writes to the object and restores it before it returns. Keep the
+ *     object in writable memory, and never declare it `const`, even if it is empty. The rule of one call at a time also covers such a call.
+ *   - Fill the keys once. Keep them unchanged and at the same place as long as a board uses them. Any number of boards share them.
+ *   - Use a board in one call at a time. You may pass it to another thread if a lock, or the start or the end of a thread, orders the calls. Boards on different
+ *     threads are independent, because there is no other state.
+ *   - Pass pointers that are aligned as C aligns their types, and not null. (NULL, 0) may stand for an empty text or for an empty room, for example to ask for a
+ *     length. An output must not overlap any other argument. Leave a text unchanged while a call reads it. Lengths are at most PTRDIFF_MAX bytes.
+ *   - C and C++ code that includes this header may free a null pointer, because two macros at its end test for it. The library's own functions take no null
+ *     pointer. If you call them by a function pointer, by dlsym or from another language, test for null first.
+ *   - `malloc`, `realloc` and `free` belong to one allocator. Make no call from a signal handler.
  *
- * Then every input is answered, and nothing aborts. Each function is proved to answer what the Laws of Chess say, and to keep the board as it was wherever
- * the status isn't JATSHEGI_OK, but for what is said at jatshegi_board_answer and at the events of the engine. All outputs are written at JATSHEGI_OK. At
- * JATSHEGI_NO_ROOM the length or the count is written, of the three calls of whole texts `used`, too, with the repairs or the report, and of
- * jatshegi_engine_slice_within `searched` and `visited`; the room is as it was. At PGN_... `used` is the place of the fault in the text, in bytes, at most
- * its length, of jatshegi_game_salvage and of the calls of a text that comes bit by bit the bytes to pass over, which the latter write at NO_GAME, too, and
- * nothing else is written; at JATSHEGI_ABANDONED `visited` alone is. At every other status all outputs are as they were. All this is proved, but that the
- * place is that of the first fault.
+ * If you follow these rules, the library answers every input and never aborts. Each function is proved to answer as the definitions of the Laws of Chess say.
+ * If the status isn't JATSHEGI_OK, the call leaves the board unchanged, except at jatshegi_board_answer and at the events of the engine (see there). The status
+ * also decides which outputs the call writes:
+ *   - JATSHEGI_OK: all outputs.
+ *   - JATSHEGI_NO_ROOM: the length or the count; the room stays unchanged. jatshegi_game_read, jatshegi_game_salvage and jatshegi_game_report also write `used`,
+ *     jatshegi_game_salvage the repairs, and jatshegi_game_report the report. jatshegi_engine_slice_within writes `searched` and `visited`.
+ *   - JATSHEGI_PGN_...: only `used`. It is the place of the fault in the text, in bytes, and at most the text's length. For jatshegi_game_salvage,
+ *     jatshegi_game_next and jatshegi_board_load_next it is the number of bytes to skip.
+ *   - JATSHEGI_NO_GAME: jatshegi_game_next and jatshegi_board_load_next write `used`, which counts all bytes. Other calls leave all outputs unchanged.
+ *   - JATSHEGI_ABANDONED: only `visited`.
+ *   - Any other status leaves all outputs unchanged.
+ * The prover has checked all this, except that the place belongs to the text's first fault; tests check that.
  *
- * Texts are bytes and a length, without a byte 0 at the end. Squares are numbers: 0 for a1, 1 for b1, 63 for h8.
+ * Texts are bytes with a length, without a zero byte at the end. Squares are numbers: 0 for a1, 1 for b1, 63 for h8. A man is a piece or a pawn.
  */
 #ifndef JATSHEGI_H
 #define JATSHEGI_H
@@ -47,7 +52,7 @@
 #include <stddef.h>
 #include <stdint.h>
 
-/* The version of this header, as a text and as a number: 65,536 times the first part, 256 times the second, and the third. */
+/* The version of this header, as a text and as a number. The number is 65,536 times the first part, plus 256 times the second, plus the third. */
 #define JATSHEGI_VERSION "0.2.0"
 #define JATSHEGI_VERSION_NUMBER 0x000200
 
@@ -55,51 +60,51 @@
 extern "C" {
 #endif
 
-/* What a call answers. */
+/* The status that a call returns. */
 enum jatshegi_status {
     JATSHEGI_OK = 0,
     JATSHEGI_EMPTY = 1,       /* there is no board */
-    JATSHEGI_NO_MEMORY = 2,   /* there is no memory */
+    JATSHEGI_NO_MEMORY = 2,   /* the memory ran out */
     JATSHEGI_ILLEGAL = 3,     /* the move isn't legal, or the text names no legal move */
     JATSHEGI_AMBIGUOUS = 4,   /* the text names more than one legal move */
-    JATSHEGI_FORM = 5,        /* the text has no form of a move */
+    JATSHEGI_FORM = 5,        /* the text doesn't have the form of a move */
     JATSHEGI_TOO_LONG = 6,    /* the cursor is 20,000 plies deep */
     JATSHEGI_FULL = 7,        /* the tree holds 1,000,000 moves */
     JATSHEGI_AT_ROOT = 8,     /* the cursor is at the root */
     JATSHEGI_ARGUMENT = 9,    /* a number is out of its range */
-    JATSHEGI_NO_ROOM = 10,    /* the answer is longer than the room for it; its length is known */
-    JATSHEGI_NONE = 11,       /* there is no legal move, so none is best; or no search was begun, or nothing searched */
+    JATSHEGI_NO_ROOM = 10,    /* the answer is longer than its room; the call writes the length */
+    JATSHEGI_NONE = 11,       /* there is no legal move, no search, no searched move, or no clock */
     JATSHEGI_NO_SUCH = 12,    /* there is no such child, or no such tag */
-    JATSHEGI_BAD_COMMENT = 13, /* the comment has a right brace */
-    JATSHEGI_MORE = 14,       /* more bytes decide what is there */
-    JATSHEGI_NO_GAME = 16,    /* only whitespace follows; of jatshegi_game_salvage also the end of a file */
-    JATSHEGI_ABANDONED = 17,  /* the search was abandoned: the positions that it may ask for were not enough, or its flag was found set */
-    JATSHEGI_TAG_NAME = 18,   /* the name of a tag is empty, or has a byte that is no letter, digit or underscore */
-    JATSHEGI_TAG_OWN = 19,    /* Result, FEN and SetUp are no tags: the game itself has what they say */
-    JATSHEGI_TAG_VALUE = 20,  /* the value of a tag has a line feed */
-    /* A text is no FEN, or fields are no position: the first fault that applies. */
+    JATSHEGI_BAD_COMMENT = 13, /* the comment contains a right brace */
+    JATSHEGI_MORE = 14,       /* the bytes so far don't decide: pass more of them */
+    JATSHEGI_NO_GAME = 16,    /* only whitespace follows; for jatshegi_game_salvage also the end of a file */
+    JATSHEGI_ABANDONED = 17,  /* the search was abandoned: it came to its limit of positions, or found its flag set */
+    JATSHEGI_TAG_NAME = 18,   /* the name of a tag is empty, or contains a byte other than a letter, digit or underscore */
+    JATSHEGI_TAG_OWN = 19,    /* Result, FEN and SetUp aren't tags here: the game itself holds its result and its start */
+    JATSHEGI_TAG_VALUE = 20,  /* the value of a tag contains a line feed */
+    /* A text isn't a FEN, or fields aren't a position: the first fault that applies. */
     JATSHEGI_FEN_FIELDS = 21,       /* neither four nor six fields */
-    JATSHEGI_FEN_PLACEMENT = 22,    /* the men are not eight ranks of eight squares */
-    JATSHEGI_FEN_KINGS = 23,        /* not exactly one king a side */
-    JATSHEGI_FEN_PAWN_RANK = 24,    /* a pawn on the first or the last rank */
-    JATSHEGI_FEN_TOO_MANY_MEN = 25, /* more than 16 men of a side */
+    JATSHEGI_FEN_PLACEMENT = 22,    /* the placement isn't eight ranks of eight squares */
+    JATSHEGI_FEN_KINGS = 23,        /* a side doesn't have exactly one king */
+    JATSHEGI_FEN_PAWN_RANK = 24,    /* a pawn is on the first or the last rank */
+    JATSHEGI_FEN_TOO_MANY_MEN = 25, /* a side has more than 16 men */
     JATSHEGI_FEN_SIDE = 26,         /* the side to move is neither w nor b */
-    JATSHEGI_FEN_CASTLING = 27,     /* neither - nor different letters of KQkq; of fields also a right without its king or rook at home */
-    JATSHEGI_FEN_TARGET = 28,       /* the en passant field is neither - nor a square; of fields also one that no pawn has just passed over */
-    JATSHEGI_FEN_COUNTER = 29,      /* a counter is no number up to 99,999 */
+    JATSHEGI_FEN_CASTLING = 27,     /* neither - nor different letters of KQkq; for fields also a right without its king or rook at home */
+    JATSHEGI_FEN_TARGET = 28,       /* the en passant field is neither - nor a square; for fields also a square that no pawn has just passed over */
+    JATSHEGI_FEN_COUNTER = 29,      /* a counter isn't a number up to 99,999 */
     JATSHEGI_FEN_IN_CHECK = 30,     /* the side not to move is in check */
     /* No game (PGN) is at the start of a text: the first fault. */
-    JATSHEGI_PGN_TOKEN = 41,     /* bytes that are no token of PGN */
-    JATSHEGI_PGN_TAG = 42,       /* a tag that is none */
+    JATSHEGI_PGN_TOKEN = 41,     /* bytes that aren't a token of PGN */
+    JATSHEGI_PGN_TAG = 42,       /* a malformed tag */
     JATSHEGI_PGN_MOVE = 43,      /* a word that names no legal move, or more than one */
     JATSHEGI_PGN_VARIATION = 44, /* a variation that doesn't fit */
-    JATSHEGI_PGN_DEEP = 45,      /* more than 128 variations within one another */
+    JATSHEGI_PGN_DEEP = 45,      /* more than 128 nested variations */
     JATSHEGI_PGN_TRUNCATED = 46, /* the text ends within the game */
-    JATSHEGI_PGN_FEN = 47,       /* the tag FEN spells no position */
-    JATSHEGI_PGN_TOO_LARGE = 49  /* more than 1,048,576 bytes, or 20,000 plies in a line */
+    JATSHEGI_PGN_FEN = 47,       /* the tag FEN doesn't spell a position */
+    JATSHEGI_PGN_TOO_LARGE = 49  /* more than 1,048,576 bytes, or more than 20,000 plies in a line */
 };
 
-/* The fault that a status names, or that there is none, for people: a constant text, not to be freed. */
+/* Returns a sentence for people that names the fault of a status, or says that there is no fault. The text is constant; don't free it. */
 static inline const char *jatshegi_status_text(uint32_t status) {
     switch (status) {
     case JATSHEGI_OK: return "it is done";
@@ -148,24 +153,24 @@ static inline const char *jatshegi_status_text(uint32_t status) {
 enum jatshegi_outcome {
     JATSHEGI_MATE = 0,
     JATSHEGI_STALEMATE = 1,
-    JATSHEGI_DEAD = 2,        /* too few men to mate with */
+    JATSHEGI_DEAD = 2,        /* too few men are left to mate */
     JATSHEGI_FIVEFOLD = 3,    /* the same position for the fifth time */
-    JATSHEGI_SEVENTYFIVE = 4, /* 75 moves of each side without a capture or a pawn's move */
+    JATSHEGI_SEVENTYFIVE = 4, /* 75 moves by each side without a capture or a pawn move */
     JATSHEGI_PLAY = 5         /* the game goes on */
 };
 
-/* The draws that may be claimed, added up (FIDE Laws 9.2, 9.3). */
+/* The draws that a player may claim, added up (FIDE Laws 9.2, 9.3). */
 enum jatshegi_claims {
     JATSHEGI_THREEFOLD = 1,
     JATSHEGI_FIFTY = 2
 };
 
-/* What sort of move one is, added up (FIDE Laws 3.1, 3.7, 3.7.3.1, 3.8.2). */
+/* The kinds of a move, added up (FIDE Laws 3.1, 3.7, 3.7.3.1, 3.8.2). */
 enum jatshegi_kinds {
     JATSHEGI_CAPTURE = 1,           /* it captures a man, also en passant */
     JATSHEGI_EN_PASSANT = 2,
-    JATSHEGI_CASTLES_KING_SIDE = 4, /* with the rook of file h */
-    JATSHEGI_CASTLES_QUEEN_SIDE = 8, /* with that of file a */
+    JATSHEGI_CASTLES_KING_SIDE = 4, /* with the rook of the h-file */
+    JATSHEGI_CASTLES_QUEEN_SIDE = 8, /* with the rook of the a-file */
     JATSHEGI_PAWN_MOVE = 16
 };
 
@@ -175,15 +180,15 @@ enum jatshegi_colour {
     JATSHEGI_BLACK = 1
 };
 
-/* How a game ended, as its text says (PGN 8.2.6). */
+/* The end of a game by its text (PGN 8.2.6). */
 enum jatshegi_marker {
-    JATSHEGI_UNFINISHED = 0, /* *, it goes on, was abandoned, or its end isn't known */
+    JATSHEGI_UNFINISHED = 0, /* *: the game goes on, was abandoned, or has an unknown end */
     JATSHEGI_WHITE_WINS = 1, /* 1-0 */
     JATSHEGI_BLACK_WINS = 2, /* 0-1 */
     JATSHEGI_DRAW = 3        /* 1/2-1/2 */
 };
 
-/* What a pawn becomes. */
+/* The piece that a pawn becomes. */
 enum jatshegi_promotion {
     JATSHEGI_NO_PROMOTION = 0,
     JATSHEGI_KNIGHT = 1,
@@ -192,14 +197,16 @@ enum jatshegi_promotion {
     JATSHEGI_QUEEN = 4
 };
 
-/* A move: from where, to where, and what a pawn becomes on the last rank. Castling is the king's move of two squares. */
+/*
+ * A move: the square that it leaves, the square that it enters, and the piece that a pawn becomes on the last rank. Castling is the king's move of two squares.
+ */
 struct jatshegi_move {
     uint8_t from;
     uint8_t to;
     uint8_t promotion;
 };
 
-/* The castling rights held, added up: whose, and with which rook (FIDE Laws 3.8.2). */
+/* The castling rights, added up; each belongs to a side and a rook (FIDE Laws 3.8.2). */
 enum jatshegi_castling {
     JATSHEGI_WHITE_KING_SIDE = 1,  /* h1 */
     JATSHEGI_WHITE_QUEEN_SIDE = 2, /* a1 */
@@ -210,20 +217,20 @@ enum jatshegi_castling {
 /* No square. */
 #define JATSHEGI_NO_SQUARE 64
 
-/* A position by its six fields. A man is his letter, as in a FEN: 'K' for White's king, 'p' for a pawn of Black's (PGN 16.1.3.1). */
+/* A position by its six fields. A man is a letter, as in a FEN: 'K' for White's king, 'p' for a black pawn (PGN 16.1.3.1). */
 struct jatshegi_position {
-    char men[64];     /* what is on each square, a1 first: a man, or 0 for nothing */
+    char men[64];     /* the man on each square, a1 first, or 0 for an empty square */
     uint8_t side;     /* the side to move: an enum jatshegi_colour */
-    uint8_t castling; /* the castling rights held: enum jatshegi_castling, added up */
+    uint8_t castling; /* the castling rights: enum jatshegi_castling, added up */
     uint8_t target;   /* the en passant target: the square that a pawn has just passed over, or JATSHEGI_NO_SQUARE */
-    uint32_t clock;   /* the halfmove clock: plies since the last pawn's move or capture */
+    uint32_t clock;   /* the halfmove clock: plies since the last pawn move or capture */
     uint32_t number;  /* the fullmove number, from 1 on */
 };
 
-/* The ply of what never happens. */
+/* The ply of an event that never happens. */
 #define JATSHEGI_NEVER UINT32_MAX
 
-/* What was repaired in a text: the names that `chess_games --salvage` reports, in whose list it is said what is written for each. */
+/* The kinds of repair, by the names that `chess_games --salvage` reports. The page FORMATS lists the text that each kind writes. */
 enum jatshegi_repair_kind {
     JATSHEGI_REPAIR_TAG_QUOTES = 0,
     JATSHEGI_REPAIR_TAG_BRACKET = 1,
@@ -262,15 +269,15 @@ enum jatshegi_repair_kind {
     JATSHEGI_REPAIR_VARIATION = 34
 };
 
-/* One repair. Where reading stopped at it, and its line was cut off or written anew there, its place is as near as it can be said. */
+/* One repair. If reading stopped at a repair, and the repair rewrote or cut off the line there, its place is approximate. */
 struct jatshegi_repair {
     size_t place;   /* of its first byte, in bytes of the text */
-    size_t length;  /* how many bytes it replaces */
-    size_t written; /* how many bytes are written for them */
+    size_t length;  /* the number of bytes that it replaces */
+    size_t written; /* the number of bytes that it writes instead */
     uint32_t kind;  /* an enum jatshegi_repair_kind */
 };
 
-/* The name of a kind of repair: a constant text, not to be freed; null where there is no such kind. */
+/* Returns the name of a kind of repair, or null if there is no such kind. The text is constant; don't free it. */
 static inline const char *jatshegi_repair_text(uint32_t kind) {
     static const char *const names[] = {
         "TagQuotes", "TagBracket", "TagName", "Castling", "Hyphen", "Colon", "Pawn", "Small", "Large", "Promotion", "Sign", "Said", "Value", "Result",
@@ -280,19 +287,19 @@ static inline const char *jatshegi_repair_text(uint32_t kind) {
     return kind < sizeof names / sizeof names[0] ? names[kind] : NULL;
 }
 
-/* What the Laws say of a game's main line (FIDE Laws 5 and 9). A ply is a number of moves made, from 0 to `plies`, or JATSHEGI_NEVER. */
+/* A report on a game's main line by the Laws (FIDE Laws 5 and 9). A ply counts the moves made, from 0 to `plies`, or is JATSHEGI_NEVER. */
 struct jatshegi_report {
-    uint32_t plies;       /* the moves of the main line, at most 20,000 */
-    uint32_t marker;      /* how the game ended, as its text says: an enum jatshegi_marker */
+    uint32_t plies;       /* the number of moves in the main line, at most 20,000 */
+    uint32_t marker;      /* the end of the game by its text: an enum jatshegi_marker */
     uint32_t status;      /* the outcome at the last position: an enum jatshegi_outcome */
-    uint32_t winner;      /* the side that has mated the other there: 0 for none, 1 for White, 2 for Black */
-    uint32_t over;        /* the first ply at which the game is over; where that isn't the last, moves follow it */
-    uint32_t why;         /* why it is over there, an enum jatshegi_outcome; JATSHEGI_PLAY where it never is */
-    uint32_t threefold;   /* the first ply at which a draw may be claimed by repetition (9.2.2) */
-    uint32_t fifty;       /* the same by fifty moves (9.3.2) */
-    uint32_t repetitions; /* the most often a position has come up, at least 1 */
-    uint32_t quiet;       /* the most plies in a row without a pawn's move or a capture */
-    bool agrees;          /* whether the marker agrees with the board: after mate the winner's, after each other end a draw's, else any */
+    uint32_t winner;      /* the side that has mated the other there: 0 without a mate, 1 for White, 2 for Black */
+    uint32_t over;        /* the first ply at which the game is over; if it isn't the last ply, moves follow it */
+    uint32_t why;         /* the reason that it is over there, an enum jatshegi_outcome; JATSHEGI_PLAY if it never is */
+    uint32_t threefold;   /* the first ply at which a player may claim a draw by repetition (9.2.2) */
+    uint32_t fifty;       /* the first ply at which a player may claim a draw by fifty moves (9.3.2) */
+    uint32_t repetitions; /* the most times that a position has come up, at least 1 */
+    uint32_t quiet;       /* the most plies in a row without a pawn move or a capture */
+    bool agrees;          /* whether the marker agrees with the board: after mate the winner's, after each other end a draw, otherwise any marker */
 };
 
 /* A table that boards share. No answer depends on its words. */
@@ -300,7 +307,7 @@ struct jatshegi_keys {
     uint64_t words[768];
 };
 
-/* A board, with a search and a session of the engine, or nothing: zeros are nothing. Its fields are for the functions below alone. */
+/* A board with a search and a session of the engine, or nothing: zeros are nothing. Only the functions below use its fields. */
 struct jatshegi_board {
     bool full;
     void *at;
@@ -308,8 +315,8 @@ struct jatshegi_board {
 #define JATSHEGI_NO_BOARD {false, NULL}
 
 /*
- * A handle of a flag by which one thread has the searches of another abandoned, or nothing: zeros are nothing. Its fields are for the functions below alone.
- * A handle that is in use is never copied, and one call at a time uses it; it may be passed to another thread. It is never `const`, even if it is empty.
+ * A handle of a flag, or nothing: zeros are nothing. One thread sets the flag to end the searches of another thread. Only the functions below use its fields.
+ * Never copy a handle that is in use, and use it in one call at a time. You may pass it to another thread. Never declare it `const`, even if it is empty.
  */
 struct jatshegi_stop {
     bool full;
@@ -317,7 +324,10 @@ struct jatshegi_stop {
 };
 #define JATSHEGI_NO_STOP {false, NULL}
 
-/* No position has more legal moves, no FEN and no line's answer but those of `path` and `pgn` is longer. */
+/*
+ * Upper bounds: the number of legal moves in a position, and the lengths of a FEN, a move in each notation, an answer to a line (except `path` and `pgn`), and
+ * the replies to an event.
+ */
 enum {
     JATSHEGI_MOST_MOVES = 432,
     JATSHEGI_MOST_FEN = 128,
@@ -327,295 +337,311 @@ enum {
     JATSHEGI_MOST_REPLIES = 260
 };
 
-/* The version of the library that runs, as JATSHEGI_VERSION_NUMBER is that of the header. */
+/* Returns the version of the running library, as a number like JATSHEGI_VERSION_NUMBER. */
 uint32_t jatshegi_version(void);
 
-/* Fills the table. OK, always. */
+/* Fills the table. Always OK. */
 uint32_t jatshegi_keys_fill(struct jatshegi_keys *keys);
 
-/* A board as a game begins; one that was there is freed. OK, NO_MEMORY. */
+/* Sets up a board for a new game, and frees the board that was there before. OK, NO_MEMORY. */
 uint32_t jatshegi_board_new(const struct jatshegi_keys *keys, struct jatshegi_board *board);
 
 /*
- * Puts a copy of the board into another: the same game with its tags and its result, the cursor at the same node, no search, and a session of the engine at its
- * start. What was in the other is freed; the two are not the same one. But for OK the other is as it was. OK, EMPTY, NO_MEMORY.
+ * Copies a board into another: the same game with its tags and its result, the cursor at the same node, no search, and a session of the engine at its start.
+ * The call frees the former content of the other board. The two boards must be different. If the status isn't OK, the other board stays unchanged. OK, EMPTY,
+ * NO_MEMORY.
  */
 uint32_t jatshegi_board_copy(const struct jatshegi_board *board, struct jatshegi_board *other);
 
-/* Frees the board, if there is one: then there is none. At a null pointer it does nothing, if it is called by this name in C or C++. */
+/* Frees the board, if there is one, and leaves the object empty. If you call it by this name in C or C++, it ignores a null pointer. */
 void jatshegi_board_free(struct jatshegi_board *board);
 
 /*
- * Gives back the memory that the board doesn't need between calls: the 65,536 bytes into which answers to lines are written, and which the first line takes,
- * also the first after this call. The board, its search and its session of the engine stay as they are. OK, EMPTY.
+ * Frees the memory that the board doesn't need between calls: the 65,536 bytes for the answers to lines. The next line takes them again. The board, its search
+ * and its session of the engine stay unchanged. OK, EMPTY.
  */
 uint32_t jatshegi_board_trim(struct jatshegi_board *board);
 
-/* Begins a tree from the position of a FEN; the one that was there is freed. OK, EMPTY, NO_MEMORY, FEN_... */
+/* Begins a tree from the position of a FEN, and frees the former tree. OK, EMPTY, NO_MEMORY, FEN_... */
 uint32_t jatshegi_board_set(struct jatshegi_board *board, const char *fen, size_t length);
 
 /*
- * Begins a tree from a position by its fields; the one that was there is freed. OK, EMPTY, NO_MEMORY, FEN_...
+ * Begins a tree from a position by its fields, and frees the former tree. OK, EMPTY, NO_MEMORY, FEN_...
  *
- * First comes the fault of a field that says nothing (FEN_PLACEMENT of a byte that is no man, FEN_SIDE, FEN_CASTLING, FEN_TARGET, and FEN_COUNTER over
- * 99,999), then that of the position. Unlike a FEN's, the fields are taken as they are: a right without its king and its rook at home is FEN_CASTLING, a
- * target that no pawn has just passed over FEN_TARGET, and the number 0 FEN_COUNTER.
+ * Faults of single fields come first: FEN_PLACEMENT if a byte isn't a man, FEN_SIDE, FEN_CASTLING, FEN_TARGET, and FEN_COUNTER if a counter is over 99,999.
+ * Then come the faults of the position. jatshegi_board_set drops a right without its king and its rook at home, and a target that no pawn has just passed over.
+ * This call refuses them with FEN_CASTLING and FEN_TARGET, and the number 0 with FEN_COUNTER.
  */
 uint32_t jatshegi_board_set_position(struct jatshegi_board *board, const struct jatshegi_position *position);
 
 /*
- * Begins with the whole game at the start of a text (PGN), its tags and its result, its variations, comments and annotations, from the position in which it
- * begins; and says how many bytes of the text the game takes. The cursor is at the root. But for OK the board is as it was; at PGN_... `used` is the place of
+ * Loads the game at the start of a text (PGN): its tags and its result, its first position, and its moves with variations, comments and annotations. `used` is
+ * the number of bytes that the game takes. The cursor is then at the root. If the status isn't OK, the board stays unchanged; at PGN_... `used` is the place of
  * the fault. OK, EMPTY, NO_MEMORY, NO_GAME, PGN_...
  */
 uint32_t jatshegi_board_load(struct jatshegi_board *board, const char *text, size_t length, size_t *used);
 
 /*
- * The same of a text that comes bit by bit: begins with the game that jatshegi_game_next finds at the start of the bytes that have come, and writes the same
- * `used`. But for OK the board is as it was. OK, EMPTY, NO_MEMORY, NO_GAME, MORE, PGN_...
+ * Does the same for a text that comes bit by bit: loads the game that jatshegi_game_next finds at the start of the bytes so far, and writes the same `used`. If
+ * the status isn't OK, the board stays unchanged. OK, EMPTY, NO_MEMORY, NO_GAME, MORE, PGN_...
  */
 uint32_t jatshegi_board_load_next(struct jatshegi_board *board, const char *text, size_t length, bool is_last, size_t *used);
 
-/* The FEN of the position, and its length, at most JATSHEGI_MOST_FEN (PGN 16.1). OK, EMPTY, NO_ROOM. */
+/* Writes the FEN of the position (PGN 16.1) and its length, at most JATSHEGI_MOST_FEN. OK, EMPTY, NO_ROOM. */
 uint32_t jatshegi_board_fen(const struct jatshegi_board *board, char *text, size_t room, size_t *length);
 
 /*
- * The text that shows which positions are the same by the Laws, and its length, at most JATSHEGI_MOST_FEN: the first four fields of the FEN, with the en
- * passant target only where a legal move captures on it. Two positions are the same (FIDE Laws 9.2.3) exactly where they have the same text, so that it is a
- * key for an opening tree or a table of positions. It is an EPD without operations (PGN 16.2). OK, EMPTY, NO_ROOM.
+ * Writes the text that identifies a position by the Laws, and its length, at most JATSHEGI_MOST_FEN. It has the first four fields of the FEN, with the en
+ * passant target only if a legal move captures on it. Two positions are the same (FIDE Laws 9.2.3) if and only if their texts are equal. The text is therefore
+ * a key for an opening tree or a table of positions. It is an EPD without operations (PGN 16.2). OK, EMPTY, NO_ROOM.
  */
 uint32_t jatshegi_board_epd(const struct jatshegi_board *board, char *text, size_t room, size_t *length);
 
 /*
- * The position's key in Polyglot's opening books, by which many programs name positions (http://hgm.nubati.net/book_format.html): the exclusive or of published
- * numbers, for each man on his square, each castling right and White's move, and for the file of an en passant target where a pawn of the side to move is beside
- * the pawn that has passed over it, whether it may capture it or not. Positions with different keys differ; two with one key may differ, too. OK, EMPTY.
+ * Writes the position's key in Polyglot's opening books, by which many programs name positions (http://hgm.nubati.net/book_format.html). The key is the
+ * exclusive or of published numbers: for each man on its square, for each castling right, for White's turn, and for the file of an en passant target. The
+ * target counts if a pawn of the side to move stands next to the pawn that has passed over it, also if it may not capture. Positions with different keys
+ * differ. Different positions may have the same key. OK, EMPTY.
  */
 uint32_t jatshegi_board_key(const struct jatshegi_board *board, uint64_t *key);
 
-/* The position by its fields. OK, EMPTY. */
+/* Writes the fields of the position. OK, EMPTY. */
 uint32_t jatshegi_board_position(const struct jatshegi_board *board, struct jatshegi_position *position);
 
-/* The legal moves in order, and how many they are, at most JATSHEGI_MOST_MOVES (FIDE Laws 3.1 to 3.10). OK, EMPTY, NO_ROOM. */
+/* Writes the legal moves in order, and their number, at most JATSHEGI_MOST_MOVES (FIDE Laws 3.1 to 3.10). OK, EMPTY, NO_ROOM. */
 uint32_t jatshegi_board_moves(const struct jatshegi_board *board, struct jatshegi_move *moves, size_t room, size_t *count);
 
 /*
- * The moves from the root to the cursor, in the order in which they were made, and how many they are, at most 20,000: none at the root. OK, EMPTY, NO_ROOM.
+ * Writes the moves from the root to the cursor in the order in which they were made, and their number: 0 at the root, and at most 20,000. OK, EMPTY, NO_ROOM.
  */
 uint32_t jatshegi_board_line(const struct jatshegi_board *board, struct jatshegi_move *moves, size_t room, size_t *count);
 
 /*
- * Makes a move, and says whether it added a node: `false` where a child of the node at the cursor has the move. OK, EMPTY, NO_MEMORY, ILLEGAL, TOO_LONG,
- * FULL.
+ * Makes a move, and says whether it added a node: `added` is `false` if a child of the node at the cursor has the move. OK, EMPTY, NO_MEMORY, ILLEGAL,
+ * TOO_LONG, FULL.
  *
- * A program that takes the move back keeps the answer, one for each move that it made, and passes it to jatshegi_board_undo. A legal move is made also after
- * the game is over, for example by a fifth repetition: jatshegi_board_outcome says whether the game is over.
+ * A program that takes moves back keeps the bit `added` of each move, and passes it to jatshegi_board_undo. The call also makes a legal move after the game is
+ * over, for example by a fifth repetition. jatshegi_board_outcome says whether the game is over.
  */
 uint32_t jatshegi_board_play(struct jatshegi_board *board, struct jatshegi_move move, bool *added);
 
 /* Makes the move that a text names: Nf3, exd8=Q+, O-O, or e2e4 (PGN 8.2.3). OK, EMPTY, NO_MEMORY, ILLEGAL, AMBIGUOUS, FORM, TOO_LONG, FULL. */
 uint32_t jatshegi_board_play_text(struct jatshegi_board *board, const char *text, size_t length, bool *added);
 
-/* Steps to the parent; the node that it leaves stays in the tree. OK, EMPTY, AT_ROOT. */
+/* Steps to the parent. The node that it leaves stays in the tree. OK, EMPTY, AT_ROOT. */
 uint32_t jatshegi_board_back(struct jatshegi_board *board);
 
 /*
- * Takes back the move that led to the cursor: steps to the parent, and takes the node that it leaves out of the tree where `added` is true and nothing hangs
- * on the node, no child, comment or annotation number; else it stays, as with jatshegi_board_back. OK, EMPTY, AT_ROOT.
+ * Takes back the move that led to the cursor: steps to the parent, and removes the node that it leaves from the tree. If `added` is `false`, or if the node has
+ * a child, a comment or an annotation number, the tree keeps the node, as with jatshegi_board_back. OK, EMPTY, AT_ROOT.
  *
- * With what the call that made the move wrote to its `added`, the tree and the cursor are then as they were before that call. It takes no memory. A program
- * that went elsewhere meanwhile passes `false`: with `true` a node that was there before would be taken out, where nothing hangs on it.
+ * If you pass the `added` of the call that made the move, the tree and the cursor are then the same as before that call. The call takes no memory. A program
+ * that went elsewhere meanwhile passes `false`. With `true` the call would also remove an older node if it has no child, comment or annotation number.
  */
 uint32_t jatshegi_board_undo(struct jatshegi_board *board, bool added);
 
-/* The legal move that a text names. OK, EMPTY, ILLEGAL, AMBIGUOUS, FORM. */
+/* Writes the legal move that a text names. OK, EMPTY, ILLEGAL, AMBIGUOUS, FORM. */
 uint32_t jatshegi_board_read(const struct jatshegi_board *board, const char *text, size_t length, struct jatshegi_move *move);
 
-/* The text of a move in standard algebraic notation, and its length, at most JATSHEGI_MOST_SAN (PGN 8.2.3). OK, EMPTY, ILLEGAL, NO_ROOM. */
+/* Writes a move in standard algebraic notation, and the length of the text, at most JATSHEGI_MOST_SAN (PGN 8.2.3). OK, EMPTY, ILLEGAL, NO_ROOM. */
 uint32_t jatshegi_board_write(const struct jatshegi_board *board, struct jatshegi_move move, char *text, size_t room, size_t *length);
 
 /*
- * The text of a move in the long algebraic notation of UCI, as e2e4 or e7e8q, and its length, at most JATSHEGI_MOST_UCI; and the move of such a text. No
- * board is asked whether it is legal. OK, NO_ROOM; ARGUMENT for no move of a board, FORM for any other text.
+ * jatshegi_move_write writes a move in the long algebraic notation of UCI, as e2e4 or e7e8q, and the length of the text, at most JATSHEGI_MOST_UCI.
+ * jatshegi_move_read writes the move of such a text. The move needn't be legal in any position. OK; NO_ROOM and ARGUMENT (it isn't a move on a board) of the
+ * first; FORM (it isn't such a text) of the second.
  */
 uint32_t jatshegi_move_write(struct jatshegi_move move, char *text, size_t room, size_t *length);
 uint32_t jatshegi_move_read(const char *text, size_t length, struct jatshegi_move *move);
 
-/* The outcome of the game: an enum jatshegi_outcome. OK, EMPTY. */
+/* Writes the outcome of the game: an enum jatshegi_outcome. OK, EMPTY. */
 uint32_t jatshegi_board_outcome(const struct jatshegi_board *board, uint32_t *outcome);
 
-/* The draws that may be claimed: enum jatshegi_claims, added up; with a move, in the position after it. OK, EMPTY; ILLEGAL. */
+/*
+ * Write the draws that a player may claim: enum jatshegi_claims, added up. The second call answers for the position after a move. OK, EMPTY; ILLEGAL of the
+ * second.
+ */
 uint32_t jatshegi_board_claims(const struct jatshegi_board *board, uint32_t *claims);
 uint32_t jatshegi_board_claims_with(const struct jatshegi_board *board, struct jatshegi_move move, uint32_t *claims);
 
-/* How often the position has come up on the way to it, this time included (FIDE Laws 9.2.2). OK, EMPTY. */
+/* Writes how often the position has come up on the way to it, this time included (FIDE Laws 9.2.2). OK, EMPTY. */
 uint32_t jatshegi_board_repetitions(const struct jatshegi_board *board, uint32_t *times);
 
-/* What sort of move a legal one is: enum jatshegi_kinds, added up; 0 for a quiet move of a piece. OK, EMPTY, ILLEGAL. */
+/* Writes the kinds of a legal move: enum jatshegi_kinds, added up, or 0 for a quiet move of a piece. OK, EMPTY, ILLEGAL. */
 uint32_t jatshegi_board_kinds(const struct jatshegi_board *board, struct jatshegi_move move, uint32_t *kinds);
 
 /*
- * Whether a side, an enum jatshegi_colour, can't mate any more by any series of legal moves: it has only its king, or the position is dead, so that its
- * opponent's overstepped time is a draw (FIDE Laws 5.2.2, 6.9). `false` doesn't say that it can. OK, EMPTY, ARGUMENT.
+ * Says whether a side, an enum jatshegi_colour, can't mate any more by any series of legal moves: it has only its king, or the position is dead. If its
+ * opponent oversteps the time, the game is then a draw (FIDE Laws 5.2.2, 6.9). `false` doesn't mean that the side can mate. OK, EMPTY, ARGUMENT.
  */
 uint32_t jatshegi_board_cannot_mate(const struct jatshegi_board *board, uint8_t side, bool *cannot);
 
-/* For each square, 1 where a man on it checks the side to move, else 0 (FIDE Laws 3.9.1). OK, EMPTY. */
+/* Writes for each square 1 if a man on it checks the side to move, otherwise 0 (FIDE Laws 3.9.1). OK, EMPTY. */
 uint32_t jatshegi_board_checks(const struct jatshegi_board *board, uint8_t checks[64]);
 
-/* For each square, how many men of White and of Black attack it (FIDE Laws 3.1.2). OK, EMPTY. */
+/* Writes for each square how many men of White and of Black attack it (FIDE Laws 3.1.2). OK, EMPTY. */
 uint32_t jatshegi_board_counts(const struct jatshegi_board *board, uint8_t white[64], uint8_t black[64]);
 
 /*
- * The men of a colour that attack a square, whatever is on it: the bit of each man's square is 1, the lowest for a1. A king and pinned men attack too, a man
- * that another is in the way of doesn't (FIDE Laws 3.1 to 3.8). OK, EMPTY, ARGUMENT.
+ * Writes the men of a colour that attack a square, which may be empty or occupied: the bit of each man's square is 1, and the lowest bit is for a1. A king and
+ * pinned men attack too. A man doesn't attack through another man (FIDE Laws 3.1 to 3.8). OK, EMPTY, ARGUMENT.
  */
 uint32_t jatshegi_board_attackers(const struct jatshegi_board *board, uint8_t colour, uint8_t square, uint64_t *attackers);
 
 /*
- * An opening book of Polyglot's is 16 bytes an entry, in ascending order of keys. These are the entries of a key: the first of them, counted from 0, and how many
- * there are, one after another; 0 where there is none. It looks at few of the bytes, so a book may be a mapped file. In a text whose keys don't ascend some may
- * be passed by.
+ * Finds the entries of a key in an opening book of Polyglot's, which has 16 bytes for each entry, in ascending order of keys. `first` is the first entry of the
+ * key, counted from 0. `count` is the number of its entries, which follow one another, or 0. The search reads few of the bytes, so a book may be a mapped file.
+ * If the keys of a text don't ascend, the search may miss entries.
  */
 void jatshegi_book_find(const char *book, size_t length, uint64_t key, size_t *first, size_t *count);
 
 /*
- * The legal move that an entry of a book stands for, how often to play it beside the others, and a number for a program's own use. OK, EMPTY, ILLEGAL (the
- * entry's key isn't the position's, or it stands for no legal move), ARGUMENT (the book has no such entry).
+ * Writes the legal move of an entry of a book, the entry's weight, and a number for a program's own use. The weight says how often to play the move, relative
+ * to the other entries of the key. OK, EMPTY, ILLEGAL (the entry's key isn't the position's, or its move isn't legal), ARGUMENT (the book has no such entry).
  */
 uint32_t jatshegi_board_book_move(const struct jatshegi_board *board, const char *book, size_t length, size_t entry, struct jatshegi_move *move, uint16_t *weight,
                                   uint32_t *learn);
 
-/* The evaluation, in centipawns for White. OK, EMPTY. */
+/* Writes the evaluation, in centipawns for White. OK, EMPTY. */
 uint32_t jatshegi_board_evaluation(const struct jatshegi_board *board, int32_t *value);
 
 /*
- * The first legal move of greatest minimax value, 1 to 16 plies deep, with its value for the side to move: centipawns, or 30,000 less the plies to a
+ * Writes the first legal move of greatest minimax value, 1 to 16 plies deep, with its value for the side to move: centipawns, or 30,000 less the plies to a
  * mate. OK, EMPTY, ARGUMENT, NONE.
  */
 uint32_t jatshegi_board_best(const struct jatshegi_board *board, uint8_t depth, struct jatshegi_move *move, int32_t *value);
 
 /*
- * The same search in slices, which the caller drives by its own clock, and may leave at any time. Begins a search of the position at the cursor, 1 to 16
- * plies deep; another one of the board's is ended, and nothing is searched yet. The search has a line of its own, so the board may be used meanwhile.
- * OK, EMPTY, NO_MEMORY, ARGUMENT, NONE.
+ * Begins the same search in slices, which the caller drives by its own clock, and may leave at any time. The search begins at the position at the cursor, 1 to
+ * 16 plies deep. The call ends any former search of the board, and leaves all moves of the new search to the slices. The search has its own line of moves, so
+ * you may use the board meanwhile. OK, EMPTY, NO_MEMORY, ARGUMENT, NONE.
  */
 uint32_t jatshegi_search_start(struct jatshegi_board *board, uint8_t depth);
 
-/* Searches one legal move more, and says how many are left: at 0 the search is done, and a further call searches nothing. OK, EMPTY; NONE without a search. */
+/* Searches one more legal move, and writes how many are left. At 0 the search is done, and a further call has no effect. OK, EMPTY; NONE without a search. */
 uint32_t jatshegi_search_slice(struct jatshegi_board *board, size_t *left);
 
 /*
- * The best of the legal moves that were searched, with its value as jatshegi_board_best has it; once none is left, it is that function's answer. OK, EMPTY;
- * NONE where none was searched.
+ * Writes the best of the searched moves, with its value in the form of jatshegi_board_best. Once the search is done, the answer is the same as from that
+ * function. OK, EMPTY; NONE if no move was searched.
  */
 uint32_t jatshegi_search_best(const struct jatshegi_board *board, struct jatshegi_move *move, int32_t *value);
 
-/* Ends the search and frees what it had; without one, nothing. OK, EMPTY. */
+/* Ends the search, if there is one, and frees its memory. OK, EMPTY. */
 uint32_t jatshegi_search_end(struct jatshegi_board *board);
 
 /*
- * A flag that isn't set, and a handle of it; another handle of the same flag, for another thread; the flag set, or cleared. What was in a handle that is
- * written is freed. OK, NO_MEMORY; EMPTY.
+ * jatshegi_stop_new makes a flag, not set, and a handle of it. jatshegi_stop_share makes another handle of the same flag, for another thread. jatshegi_stop_set
+ * sets or clears the flag. The first two calls free the former content of the handle that they write. OK; EMPTY of the last two; NO_MEMORY of the first two.
  */
 uint32_t jatshegi_stop_new(struct jatshegi_stop *stop);
 uint32_t jatshegi_stop_share(const struct jatshegi_stop *stop, struct jatshegi_stop *other);
 uint32_t jatshegi_stop_set(struct jatshegi_stop *stop, bool set);
 
 /*
- * Frees the handle, if there is one, and with its last handle the flag: then there is none. At a null pointer it does nothing, if it is called by this name in
- * C or C++.
+ * Frees the handle, if there is one, and leaves the object empty. The last handle of a flag also frees the flag. If you call it by this name in C or C++, it
+ * ignores a null pointer.
  */
 void jatshegi_stop_free(struct jatshegi_stop *stop);
 
 /*
- * The same searches, which may be abandoned inside a root move: at the first position beyond `nodes` (UINT64_MAX for no limit), and where the flag of `stop`
- * is found set, which is looked at at the positions of the numbers 1, 1,025, 2,049 and so on; `stop` may be a handle of nothing. `visited` is how many
- * positions the call has asked for. At ABANDONED it alone is written, and the board and its search are as before: what is abandoned begins anew, so a caller
- * who gives numbers of positions doubles them.
+ * Both calls search like jatshegi_board_best and jatshegi_search_slice, but may abandon the search inside a root move: at the first position beyond `nodes`
+ * (UINT64_MAX for no limit), or if the call finds the flag of `stop` set. It looks at the flag at the positions with the numbers 1, 1,025, 2,049 and so on.
+ * `stop` may be an empty handle. `visited` is the number of positions that the call has asked for. At ABANDONED the call writes only `visited`, and leaves the
+ * board and its search unchanged. The next call repeats the abandoned work, so a caller who sets limits doubles them.
  *
- * jatshegi_board_best_within counts the position at the cursor, too, for which the flag isn't looked at, so that a limit of 0 is one of 1 there; and it takes
- * memory for a line of its own. OK, EMPTY, NO_MEMORY, ARGUMENT, NONE, ABANDONED; the other OK, EMPTY, NONE, ABANDONED.
+ * jatshegi_board_best_within also counts the position at the cursor, but doesn't look at the flag there. A limit of 0 therefore means 1 in this call. It takes
+ * memory for a line of moves. Its statuses are OK, EMPTY, NO_MEMORY, ARGUMENT, NONE, ABANDONED; the other call has OK, EMPTY, NONE, ABANDONED.
  */
 uint32_t jatshegi_board_best_within(const struct jatshegi_board *board, uint8_t depth, uint64_t nodes, const struct jatshegi_stop *stop,
                                     struct jatshegi_move *move, int32_t *value, uint64_t *visited);
 uint32_t jatshegi_search_slice_within(struct jatshegi_board *board, uint64_t nodes, const struct jatshegi_stop *stop, size_t *left, uint64_t *visited);
 
 /*
- * A session of the universal chess interface (UCI), driven by events. Each board has one, which knows nothing of the board. The replies are written,
- * each on a line of its own, with their length, at most JATSHEGI_MOST_REPLIES; at NO_ROOM the event has happened all the same, and the replies are lost. The first
- * event of a board takes memory for the session, and without it doesn't happen. OK, EMPTY, NO_ROOM, NO_MEMORY of the first.
+ * Drive a session of the universal chess interface (UCI) by events. Each board has one session, which is independent of the board's game. jatshegi_engine_line
+ * passes a line, without its line feed. jatshegi_engine_slice gives time to search one more root move. jatshegi_engine_moment passes the time of a clock in
+ * milliseconds, counted from any fixed moment.
  *
- * A line is read, without its line feed; there is time to search one root move more; the clock reads this number of milliseconds, from any moment on.
+ * Each call writes the replies, one on each line, and their length, at most JATSHEGI_MOST_REPLIES. At NO_ROOM the event has happened, and the replies are lost.
+ * The first event of a board takes memory for the session. If memory is refused, the event doesn't happen. OK, EMPTY, NO_ROOM, NO_MEMORY of the first event.
  */
 uint32_t jatshegi_engine_line(struct jatshegi_board *board, const char *line, size_t length, char *replies, size_t room, size_t *count);
 uint32_t jatshegi_engine_slice(struct jatshegi_board *board, char *replies, size_t room, size_t *count);
 uint32_t jatshegi_engine_moment(struct jatshegi_board *board, uint64_t moment, char *replies, size_t room, size_t *count);
 
 /*
- * A slice that may be abandoned, as those of jatshegi_search_slice_within. `visited` is how many positions it has asked for. Where `searched` is true, it was
- * made, and all is as after jatshegi_engine_slice; where it is false, it was abandoned: nothing is replied, and the session is as before. OK, EMPTY, NO_ROOM,
- * NO_MEMORY.
+ * Gives the session a slice that it may abandon, with the limits of jatshegi_search_slice_within. `visited` is the number of positions that the slice has asked
+ * for. If `searched` is true, the call had the effect of jatshegi_engine_slice. If it is false, the slice was abandoned: the call writes no reply, and leaves
+ * the session unchanged. OK, EMPTY, NO_ROOM, NO_MEMORY.
  */
 uint32_t jatshegi_engine_slice_within(struct jatshegi_board *board, uint64_t nodes, const struct jatshegi_stop *stop, bool *searched, uint64_t *visited,
                                       char *replies, size_t room, size_t *count);
 
 /*
- * Whether the session searches, and so wants slices; whether that search is infinite, one that ends by `stop` alone; whether it has done all that it has to
- * do and waits for `stop`, so that a slice does nothing; whether `quit` came, after which nothing is replied. OK, EMPTY.
+ * jatshegi_engine_searching says whether the session searches, and therefore wants slices. jatshegi_engine_infinite says whether only `stop` ends that search.
+ * jatshegi_engine_waiting says whether the search has done all its work and waits for `stop`; a slice then has no effect. jatshegi_engine_ended says whether
+ * `quit` came; the session then replies no more. OK, EMPTY.
  */
 uint32_t jatshegi_engine_searching(const struct jatshegi_board *board, bool *searching);
 uint32_t jatshegi_engine_infinite(const struct jatshegi_board *board, bool *infinite);
 uint32_t jatshegi_engine_waiting(const struct jatshegi_board *board, bool *waiting);
 uint32_t jatshegi_engine_ended(const struct jatshegi_board *board, bool *ended);
 
-/* How many milliseconds after the last moment the clock ends the search, 0 where it is to end now. OK, EMPTY; NONE where no clock ends it, or none runs. */
+/*
+ * Writes the milliseconds from the last moment until the clock ends the search, or 0 if it should end now. OK, EMPTY; NONE if no search runs or no clock ends
+ * it.
+ */
 uint32_t jatshegi_engine_time_left(const struct jatshegi_board *board, uint64_t *milliseconds);
 
 /*
- * The whole game in export form (PGN 3.2), with its tags and its result, and its length; it takes memory for the text. OK, EMPTY, NO_MEMORY, NO_ROOM.
+ * Writes the whole game in export form (PGN 3.2), with its tags and its result, and the length of the text. The call takes memory for the text. OK, EMPTY,
+ * NO_MEMORY, NO_ROOM.
  *
- * Tags and result belong to the game beside its moves: jatshegi_board_new begins with none known (tags `?`, result `*`), jatshegi_board_load takes those of the
- * text, and nothing else but the calls below changes them, so a game keeps its players when another position is set. The line `pgn` of
- * jatshegi_board_answer answers as the program does, which knows neither.
+ * A game has tags and a result besides its moves. jatshegi_board_new begins with unknown tags (`?`) and the result `*`. jatshegi_board_load and
+ * jatshegi_board_load_next take the text's tags and result. Apart from these, only the calls below change them, so a game keeps its players if you set another
+ * position. The line `pgn` of jatshegi_board_answer ignores both, like the program.
  *
- * A text of more than 1,048,576 bytes, or with more than 128 variations within one another, is written, but no call reads it: it is PGN_TOO_LARGE or PGN_DEEP.
- * A program that stores games looks at the length; long comments and tags alone make such a text.
+ * The call also writes a text of more than 1,048,576 bytes, or with more than 128 nested variations, but every call that reads a game then returns
+ * PGN_TOO_LARGE or PGN_DEEP. Long comments and tags are enough for such a text, so a program that stores games checks the length.
  */
 uint32_t jatshegi_board_pgn(const struct jatshegi_board *board, char *text, size_t room, size_t *length);
 
 /*
- * The value of the tag with that name, as it is to be read, without the quotation marks and backslashes of a file, and its length (PGN 8.1). Event, Site,
- * Date, Round, White and Black are always there. Result, FEN and SetUp are no tags: the game itself has its result and its start. OK, EMPTY, NO_SUCH, NO_ROOM.
+ * Writes the value of the tag with that name, and its length (PGN 8.1). The value comes as people read it, without the quotation marks and backslashes of a
+ * file. Every game has Event, Site, Date, Round, White and Black. Result, FEN and SetUp aren't tags here: the game itself holds its result and its start. OK,
+ * EMPTY, NO_SUCH, NO_ROOM.
  */
 uint32_t jatshegi_board_tag(const struct jatshegi_board *board, const char *name, size_t length, char *value, size_t room, size_t *count);
 
 /*
- * The name of the tag at that place, from 0, and its length: first the six that each game has, then the others in ASCII order; NO_SUCH where there are no more.
- * OK, EMPTY, NO_SUCH, NO_ROOM.
+ * Writes the name of the tag at that place, counted from 0, and its length. The six tags of every game come first, then the other tags in ASCII order. NO_SUCH
+ * means that there are no more tags. OK, EMPTY, NO_SUCH, NO_ROOM.
  */
 uint32_t jatshegi_board_tags(const struct jatshegi_board *board, size_t place, char *name, size_t room, size_t *count);
 
 /*
- * Gives the tag of that name the value, whether or not the game has it yet: letters, digits and underscores, and any text on one line. Or takes the tag out, if
- * there is one; each of the six then says that nothing is known, `?`, or `????.??.??`. OK, EMPTY, NO_MEMORY; TAG_NAME, TAG_OWN, TAG_VALUE of the first.
+ * jatshegi_board_set_tag gives a tag a value, and adds the tag if the game doesn't have it yet. The name consists of letters, digits and underscores; the value
+ * is any text on one line. jatshegi_board_clear_tag removes a tag, if there is one; each of the six then has its unknown value, `?` or `????.??.??`. OK, EMPTY,
+ * NO_MEMORY; TAG_NAME, TAG_OWN, TAG_VALUE of the first.
  *
- * A value has any length, but a game whose text is longer than 1,048,576 bytes by it can't be read again (jatshegi_board_pgn).
+ * A value may have any length, but no call reads a game whose text is longer than 1,048,576 bytes (jatshegi_board_pgn).
  */
 uint32_t jatshegi_board_set_tag(struct jatshegi_board *board, const char *name, size_t length, const char *value, size_t count);
 uint32_t jatshegi_board_clear_tag(struct jatshegi_board *board, const char *name, size_t length);
 
-/* How the game ended, as its text says: an enum jatshegi_marker; and set so. OK, EMPTY; ARGUMENT of the second. */
+/*
+ * jatshegi_board_result writes the end of the game by its text: an enum jatshegi_marker. jatshegi_board_set_result sets it. OK, EMPTY; ARGUMENT of the second.
+ */
 uint32_t jatshegi_board_result(const struct jatshegi_board *board, uint32_t *marker);
 uint32_t jatshegi_board_set_result(struct jatshegi_board *board, uint32_t marker);
 
-/* Steps to a child, by its place among its siblings, from 0. OK, EMPTY, NO_SUCH. */
+/* Steps to a child, by its place among its siblings, counted from 0. OK, EMPTY, NO_SUCH. */
 uint32_t jatshegi_board_step(struct jatshegi_board *board, uint32_t place);
 
 /*
- * The node at the cursor, by which a tree is walked with `step` and `back`: how many plies it is below the root, at most 20,000; how many children it has;
- * the move that leads to it; its comment, empty where there is none (PGN 5); its annotation numbers (PGN 8.2.4). OK, EMPTY; AT_ROOT of the move; NO_ROOM of
- * the last two.
+ * Describe the node at the cursor; with `step` and `back` you can walk a tree. jatshegi_board_depth writes the number of plies from the root, at most 20,000.
+ * jatshegi_board_children writes the number of children, and jatshegi_board_move the move that leads to the node. The last two write the node's comment, empty
+ * if it has no comment (PGN 5), and its annotation numbers (PGN 8.2.4). OK, EMPTY; AT_ROOT of the move; NO_ROOM of the last two.
  */
 uint32_t jatshegi_board_depth(const struct jatshegi_board *board, uint32_t *depth);
 uint32_t jatshegi_board_children(const struct jatshegi_board *board, uint32_t *children);
@@ -623,82 +649,88 @@ uint32_t jatshegi_board_move(const struct jatshegi_board *board, struct jatshegi
 uint32_t jatshegi_board_comment_of(const struct jatshegi_board *board, char *text, size_t room, size_t *length);
 uint32_t jatshegi_board_annotations_of(const struct jatshegi_board *board, uint8_t *numbers, size_t room, size_t *count);
 
-/* Goes to the root, or along the first children as far as they lead. OK, EMPTY. */
+/* Go to the root, or from the cursor along the first children to the end. OK, EMPTY. */
 uint32_t jatshegi_board_start(struct jatshegi_board *board);
 uint32_t jatshegi_board_end(struct jatshegi_board *board);
 
-/* Puts the move at the cursor before its siblings; takes it out, with all after it, and steps to its parent. OK, EMPTY, AT_ROOT. */
+/*
+ * jatshegi_board_promote puts the move at the cursor before its siblings. jatshegi_board_delete removes the move with everything after it, and steps to its
+ * parent. OK, EMPTY, AT_ROOT.
+ */
 uint32_t jatshegi_board_promote(struct jatshegi_board *board);
 uint32_t jatshegi_board_delete(struct jatshegi_board *board);
 
 /*
- * A comment for the node at the cursor; the one that it had is forgotten: a text without words takes it out (PGN 5). OK, EMPTY, NO_MEMORY, BAD_COMMENT.
+ * Sets the comment of the node at the cursor, and drops the former comment. A text without words removes it (PGN 5). OK, EMPTY, NO_MEMORY, BAD_COMMENT.
  *
- * It has any length, but a game whose text is longer than 1,048,576 bytes by it can't be read again (jatshegi_board_pgn).
+ * A comment may have any length, but no call reads a game whose text is longer than 1,048,576 bytes (jatshegi_board_pgn).
  */
 uint32_t jatshegi_board_comment(struct jatshegi_board *board, const char *text, size_t length);
 
-/* An annotation number more for the move at the cursor (PGN 8.2.4). OK, EMPTY, NO_MEMORY, AT_ROOT. */
+/* Adds an annotation number to the move at the cursor (PGN 8.2.4). OK, EMPTY, NO_MEMORY, AT_ROOT. */
 uint32_t jatshegi_board_annotate(struct jatshegi_board *board, uint8_t number);
 
-/* Takes all annotation numbers of the move at the cursor out. OK, EMPTY, AT_ROOT. */
+/* Removes all annotation numbers of the move at the cursor. OK, EMPTY, AT_ROOT. */
 uint32_t jatshegi_board_clear_annotations(struct jatshegi_board *board);
 
 /*
- * Answers a line of the program's `board`, without its line feed, and writes the answer and its length. OK, EMPTY, NO_ROOM, NO_MEMORY.
+ * Carries out a line of the program's `board`, without its line feed, and writes the answer and its length. OK, EMPTY, NO_ROOM, NO_MEMORY.
  *
- * The line has been answered also where the answer is longer than the room for it. With room for JATSHEGI_MOST_ANSWER bytes that happens only to `path` and
- * `pgn`, which change nothing and may be asked again with more room. At NO_MEMORY it has not been answered, and all is as before; where there is memory for the
- * answer and none for what the line does, the answer is `refused 5 Memory`. The first line takes 65,536 bytes, which the board keeps until jatshegi_board_trim.
+ * At NO_ROOM the call has carried out the line, and the answer is lost. With room for JATSHEGI_MOST_ANSWER bytes this happens only to `path` and `pgn`. Both
+ * leave the board unchanged, so you may ask again with more room. At NO_MEMORY the call hasn't carried out the line, and everything stays unchanged. If there
+ * is memory for the answer but not for the line's work, the answer is `refused 5 Memory`. The first line takes 65,536 bytes, which the board keeps until
+ * jatshegi_board_trim.
  */
 uint32_t jatshegi_board_answer(struct jatshegi_board *board, const char *line, size_t length, char *answer, size_t room, size_t *count);
 
 /*
- * The game at the start of a text (PGN): in export form (PGN 3.2) with its length, and how many bytes of the text it takes. OK, NO_MEMORY, NO_ROOM,
- * NO_GAME, PGN_...
+ * Reads the game at the start of a text (PGN), and writes it in export form (PGN 3.2) with its length. `used` is the number of bytes of the text that the game
+ * takes. OK, NO_MEMORY, NO_ROOM, NO_GAME, PGN_...
  *
- * At NO_ROOM the length and the bytes taken are written, and the game may be asked for again with more room. At PGN_... `used` is the place of the fault.
+ * At NO_ROOM the call writes the length and `used`, and you may ask again with more room. At PGN_... `used` is the place of the fault.
  */
 uint32_t jatshegi_game_read(const char *text, size_t length, char *game, size_t room, size_t *count, size_t *used);
 
 /*
- * The same, saved where it can be: the game at the start of a text in export form; where jatshegi_game_read refuses it, the game that the text has after
- * repair, with the repairs, as many as there are places for, and their number; none where none was needed. `used` is how many bytes to pass over next. OK,
+ * Reads a game like jatshegi_game_read; if that call refuses the text, this call reads the game that the text has after repair. It writes the game in export
+ * form, the repairs, as many as there are places for, and their number, 0 if the text needs no repair. `used` is the number of bytes to skip next. OK,
  * NO_MEMORY, NO_ROOM, NO_GAME, PGN_...
  *
- * A repair writes some bytes of the text otherwise, by its kind; all bytes between repairs are as they were, and strict reading of what results gives the game.
- * First come those that need no reading of moves, in the order of their places, and then those that were made where reading stopped, one after another. At
- * NO_ROOM, which speaks of the game's room alone, the length, the repairs and `used` are written. At PGN_... no game could be saved, and `used` is what
- * jatshegi_game_pass has of the text. NO_GAME comes also where the text is at most 1,048,576 bytes and each of them is whitespace (9 to 13 and 32), NUL (0) or
- * ^Z (26), which is how some files end. The text is all that follows: of a part of it the answer may be another.
+ * A repair replaces some bytes of the text, according to its kind. All bytes between the repairs stay unchanged, and strict reading of the resulting text gives
+ * the game. The list begins with the repairs that need no reading of moves, in the order of their places. Then come the repairs at the places where reading
+ * stopped, in the order in which they were made. At NO_ROOM only the game's room was too small: the call writes the length, the repairs and `used`. At PGN_...
+ * it could save no game, and `used` is the same as from jatshegi_game_pass. NO_GAME also means the end of a file: a text of at most 1,048,576 bytes that are
+ * all whitespace (9 to 13 and 32), NUL (0) or ^Z (26). Pass the whole rest of the text, because the answer for a part of it may differ.
  */
 uint32_t jatshegi_game_salvage(const char *text, size_t length, char *game, size_t room, size_t *count, struct jatshegi_repair *repairs, size_t places,
                                size_t *repaired, size_t *used);
 
 /*
- * What the Laws say of the main line of the game at the start of a text, the FEN of its last position with its length, at most JATSHEGI_MOST_FEN, and how
- * many bytes of the text the game takes. OK, NO_MEMORY, NO_ROOM, NO_GAME, PGN_..., as jatshegi_game_read; at NO_ROOM the report is written, too.
+ * Reports on the main line of the game at the start of a text by the Laws. The call also writes the FEN of the last position with its length, at most
+ * JATSHEGI_MOST_FEN, and the number of bytes of the text that the game takes. OK, NO_MEMORY, NO_ROOM, NO_GAME, PGN_..., as jatshegi_game_read; at NO_ROOM the
+ * call also writes the report.
  */
 uint32_t jatshegi_game_report(const char *text, size_t length, struct jatshegi_report *report, char *fen, size_t room, size_t *count, size_t *used);
 
 /*
- * How many bytes to pass over to what follows the game at the start of a text: those that it takes, or all where only whitespace follows, or those that are
- * given up with a game that can't be read. The text alone decides these, whatever the fault: the tokens of the game as far as they go, up to the bracket of a
- * tag after movetext, to what is no token, or to 1,048,576 bytes; and from there on all up to the first `[` that opens a tag and is first on its line, or to
- * the end. It is at least 1 byte where the text has any. OK, NO_MEMORY.
+ * Writes how many bytes to skip from the start of a text to the text after its game. For a good game these are its bytes. If only whitespace follows, they are
+ * all bytes. If the game can't be read, they are the bytes that are given up with it. The text decides this number, and the kind of fault has no influence.
+ * First come the tokens of the bad game, up to the bracket of a tag after movetext, to bytes that aren't a token, or to 1,048,576 bytes. Then come all bytes up
+ * to the first `[` that opens a tag and is first on its line, or to the end. The number is at least 1 if the text has any byte. OK, NO_MEMORY.
  */
 uint32_t jatshegi_game_pass(const char *text, size_t length, size_t *used);
 
 /*
- * A text that comes bit by bit, from a pipe, a socket or a large file: what is at the start of its bytes that have come and aren't passed over yet; `is_last`
- * says that nothing follows them. `used` is how many bytes to pass over next. OK, NO_MEMORY, NO_GAME, MORE, PGN_...
+ * Finds the game at the start of a text that comes bit by bit, from a pipe, a socket or a large file. Pass the bytes that have come and that you haven't
+ * skipped yet. `is_last` says that no more bytes follow them. `used` is the number of bytes to skip next. OK, NO_MEMORY, NO_GAME, MORE, PGN_...
  *
- * At OK one game is there, whatever follows, and `used` is its length: jatshegi_game_read and jatshegi_game_report have the same game of these bytes. At PGN_...
- * no game is, whatever follows, and `used` is what jatshegi_game_pass has of the whole text. At NO_GAME all is whitespace, and the last. At MORE the caller
- * asks again with more bytes after these; at MORE and at NO_MEMORY `used` is as it was. So games and faults are those of the whole text, however it comes.
+ * At OK there is one game, for every continuation of the text, and `used` is its length. jatshegi_game_read and jatshegi_game_report read the same game from
+ * these bytes. At PGN_... there is no game, for every continuation, and `used` is the number that jatshegi_game_pass writes for the whole text. At NO_GAME all
+ * bytes are whitespace and end the text. At MORE, call again with more bytes after these; at MORE and at NO_MEMORY `used` stays unchanged. Games and faults are
+ * therefore the same as in the whole text, for every way to cut it.
  *
- * A call reads the bytes from their first one on, so they had better come in large pieces. Where there are more than 1,048,576, MORE says that they are
- * whitespace, or belong to a game that can't be read and is given up as far as the next section of tags: a caller may stop there.
+ * Each call reads the bytes from the first one on, so pass large pieces. If there are more than 1,048,576 bytes, MORE means that they are whitespace, or belong
+ * to a game that can't be read and is given up as far as the next section of tags. A caller may stop there.
  */
 uint32_t jatshegi_game_next(const char *text, size_t length, bool is_last, size_t *used);
 
@@ -706,7 +738,7 @@ uint32_t jatshegi_game_next(const char *text, size_t length, bool is_last, size_
 }
 #endif
 
-/* A null pointer is freed by doing nothing, here and not in the library. */
+/* These two functions ignore a null pointer; the library's own functions don't take it. */
 static inline void jatshegi_board_free_any(struct jatshegi_board *board) {
     if (board != NULL) jatshegi_board_free(board);
 }
