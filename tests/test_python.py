@@ -1113,11 +1113,9 @@ class ThePackage(unittest.TestCase):
         with tempfile.TemporaryDirectory() as folder:
             with open(f"{folder}/uses.py", "w", encoding="utf-8") as file:
                 file.write(textwrap.dedent(uses))
-            words = ["mypy", "--strict", "--cache-dir", f"{folder}/cache"]
-            ran = subprocess.run([*words, f"{PACKAGE}/jatshegi"], capture_output=True, text=True)
-            used = subprocess.run([*words, f"{folder}/uses.py"], env={**os.environ, "MYPYPATH": PACKAGE}, capture_output=True, text=True)
-        self.assertEqual(ran.returncode, 0, ran.stdout)
-        # The last two lines are those that a call refuses, too.
+            words = ["mypy", "--strict", "--cache-dir", f"{folder}/cache", f"{folder}/uses.py"]
+            used = subprocess.run(words, env={**os.environ, "MYPYPATH": PACKAGE}, capture_output=True, text=True)
+        # The last two lines are those that a call refuses, too. (tests/test_python_types.py checks the package itself)
         self.assertEqual(re.findall(r"uses.py:(\d+): error", used.stdout), ["8", "9"], used.stdout)
 
     def test_installs_and_answers(self):

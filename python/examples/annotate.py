@@ -13,7 +13,9 @@ def annotate(game, depth):
     """A board with the game, its mistakes marked."""
     board = jatshegi.Board.from_game(game)
     for node in game.mainline():
-        move, (best, worth) = board.parse_san(node.san), board.best(depth)
+        move, found = board.parse_san(node.san), board.best(depth)
+        assert found is not None, "a position in which a move was made has a best one"
+        best, worth = found
         if move != best:
             board.push(move)
             # What the reply is worth is worth that to the other side; where there is none, the game is over.

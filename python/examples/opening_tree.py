@@ -14,16 +14,16 @@ SCORES = {"1-0": 1.0, "0-1": 0.0, "1/2-1/2": 0.5}
 
 def tree_of(path, plies):
     """For each position the moves with their number and White's points."""
-    tree = defaultdict(lambda: defaultdict(lambda: [0, 0.0]))
+    tree: dict[str, dict[str, list[float]]] = defaultdict(lambda: defaultdict(lambda: [0, 0.0]))
     for game in jatshegi.pgn.games(path, lambda fault: print(fault, file=sys.stderr)):
         board = game.board()
-        for node in game.mainline():
+        for san in game.mainline_sans():
             if board.ply == plies or game.result not in SCORES:
                 break
-            row = tree[board.epd()][node.san]
+            row = tree[board.epd()][san]
             row[0] += 1
             row[1] += SCORES[game.result]
-            board.push_san(node.san)
+            board.push_san(san)
     return tree
 
 

@@ -41,7 +41,7 @@ if __name__ == "__main__":
     game.headers["White"], game.headers["Event"] = sys.argv[1], "Repertoire"
     nodes = [add(game, line.split()) for line in sys.stdin if line.strip()]
     values = {node: value(node, int(sys.argv[2])) for node in nodes if node.is_end()}
-    node = max(values, key=values.get, default=game)
+    node = max(values, key=lambda it: values[it], default=game)
     while node.parent:
         node.parent.promote_to_main(node)
         node = node.parent

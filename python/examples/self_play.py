@@ -14,7 +14,9 @@ def play(number, depths, chance, most=160):
     while board.ply < 6:
         board.push(chance.choice(board.legal_moves))
     while board.ply < most and not board.is_game_over(claim_draw=True):
-        board.push(board.best(depths[board.turn])[0])
+        found = board.best(depths[board.turn])
+        assert found is not None, "a game that isn't over has a move"
+        board.push(found[0])
     board.headers["Event"], board.headers["Round"] = "Self-play", str(number)
     board.headers["White"], board.headers["Black"] = (f"depth {depths[colour]}" for colour in (jatshegi.WHITE, jatshegi.BLACK))
     board.marker = board.result(claim_draw=True)

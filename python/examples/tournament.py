@@ -4,7 +4,7 @@ when over, and claims. Games are numbered as the program `arbiter` numbers them,
     python3 tournament.py games.pgn
 """
 import sys
-from collections import Counter
+from collections import Counter, defaultdict
 from itertools import count
 
 import jatshegi
@@ -31,7 +31,10 @@ def findings(game):
 
 
 def main(path):
-    points, played, numbers, repairs = Counter(), Counter(), count(1), []
+    points: dict[str, float] = defaultdict(float)
+    played: Counter[str] = Counter()
+    repairs: list[jatshegi.pgn.Repair] = []
+    numbers = count(1)
     # A game that can't be read has its number, too; its points count if it is saved by repairs.
     for game in jatshegi.pgn.games(path, lambda fault: print(f"game {next(numbers)}: {fault}"), repairs.extend):
         number = next(numbers)

@@ -10,7 +10,7 @@ from wsgiref.simple_server import make_server
 import jatshegi
 
 
-def asked(query):
+def asked(query: dict[str, list[str]]) -> jatshegi.Board:
     """The board of a query: a position, and moves from it. Raises `ValueError` for what is none."""
     board = jatshegi.Board(query.get("fen", [jatshegi.STARTING_FEN])[0])
     for san in filter(None, query.get("moves", [""])[0].split(",")):

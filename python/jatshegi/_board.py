@@ -618,8 +618,7 @@ class Board(Core, Calls, Habits):
             return NotImplemented
         return self.epd() == other.epd() and (self.halfmove_clock, self.fullmove_number) == (other.halfmove_clock, other.fullmove_number)
 
-    # (it changes)
-    __hash__ = None  # type: ignore[assignment]
+    __hash__ = None  # type: ignore[assignment]  # (it can be changed)
 
     # ---- pictures
 

@@ -99,8 +99,7 @@ class Nags(Sequence[int]):
             return mine == tuple(other)
         return NotImplemented
 
-    # What it equals may change.
-    __hash__ = None  # type: ignore[assignment]
+    __hash__ = None  # type: ignore[assignment]  # (it can be changed)
 
     def add(self, nag: int) -> None:
         """One annotation more, unless it is there. Raises `ValueError` for a number that isn't 0 to 255, and at the root."""

@@ -1,7 +1,7 @@
 """Men."""
 from __future__ import annotations
 
-from typing import Dict
+from typing import Dict, Type, TypeVar
 
 from ._checks import colour_of, text_of, whole
 from ._moves import BISHOP, KING, KNIGHT, PAWN, QUEEN, ROOK
@@ -9,6 +9,8 @@ from ._moves import BISHOP, KING, KNIGHT, PAWN, QUEEN, ROOK
 _SYMBOLS = {PAWN: "P", KNIGHT: "N", BISHOP: "B", ROOK: "R", QUEEN: "Q", KING: "K"}
 _KINDS = {symbol: kind for kind, symbol in _SYMBOLS.items()}
 _GLYPHS = dict(zip("KQRBNPkqrbnp", "♔♕♖♗♘♙♚♛♜♝♞♟"))
+
+_Of = TypeVar("_Of", bound="Piece")
 
 
 class Piece(str):
@@ -20,7 +22,7 @@ class Piece(str):
 
     __slots__ = ()
 
-    def __new__(cls, piece_type: int, color: bool) -> Piece:
+    def __new__(cls: Type[_Of], piece_type: int, color: bool) -> _Of:
         """The man of that kind and colour. Raises `ValueError` for a number that is no kind's."""
         symbol = _SYMBOLS[whole(piece_type, "a kind is PAWN (1) to KING (6)", PAWN, KING)]
         return super().__new__(cls, symbol if colour_of(color) else symbol.lower())
@@ -33,7 +35,7 @@ class Piece(str):
             raise ValueError(f"a man's letter is one of PNBRQK, small for Black: {symbol!r}")
         return cls(_KINDS[symbol.upper()], symbol.isupper())
 
-    def __getnewargs__(self) -> tuple[int, bool]:  # type: ignore[override]
+    def __getnewargs__(self) -> tuple[int, bool]:  # type: ignore[override]  # (`__new__` takes a kind and a colour, not the text)
         return self.piece_type, self.color
 
     @property

@@ -147,7 +147,9 @@ class PovScore(NamedTuple):
         return PovWdl(self.relative.wdl(model=model, ply=ply), self.turn)
 
     def __eq__(self, other: object) -> bool:
-        return self.white() == other.white() if isinstance(other, PovScore) else NotImplemented
+        if not isinstance(other, PovScore):
+            return NotImplemented
+        return self.white() == other.white()
 
     def __ne__(self, other: object) -> bool:
         return not self == other
@@ -300,7 +302,7 @@ def info_of(parts: Dict[str, List[str]], turn: bool) -> InfoDict:
     for name in _COUNTS:
         number = _number(parts.get(name, []))
         if number is not None:
-            info[name] = number  # type: ignore[literal-required]
+            info[name] = number  # type: ignore[literal-required]  # (each name of `_COUNTS` is a key of `InfoDict`)
     milliseconds = _number(parts.get("time", []))
     if milliseconds is not None:
         info["time"] = milliseconds / 1000

@@ -151,13 +151,13 @@ class SquareSet(MutableSet[int]):
         """For each of the 64 squares, whether it is in the set."""
         return [square in self for square in range(64)]
 
-    def __or__(self, other: Squares) -> "SquareSet":  # type: ignore[override]
+    def __or__(self, other: Squares) -> "SquareSet":  # type: ignore[override]  # (a set of squares takes only squares)
         return self.union(other) if isinstance(other, (int, Iterable)) else NotImplemented
 
     def __and__(self, other: Squares) -> "SquareSet":
         return self.intersection(other) if isinstance(other, (int, Iterable)) else NotImplemented
 
-    def __xor__(self, other: Squares) -> "SquareSet":  # type: ignore[override]
+    def __xor__(self, other: Squares) -> "SquareSet":  # type: ignore[override]  # (a set of squares takes only squares)
         return self.symmetric_difference(other) if isinstance(other, (int, Iterable)) else NotImplemented
 
     def __sub__(self, other: Squares) -> "SquareSet":
@@ -168,7 +168,7 @@ class SquareSet(MutableSet[int]):
 
     __ror__, __rand__, __rxor__ = __or__, __and__, __xor__
 
-    def __ior__(self, other: Squares) -> "SquareSet":  # type: ignore[override]
+    def __ior__(self, other: Squares) -> "SquareSet":  # type: ignore[override]  # (a set of squares takes only squares)
         self.update(other)
         return self
 
@@ -176,7 +176,7 @@ class SquareSet(MutableSet[int]):
         self.intersection_update(other)
         return self
 
-    def __ixor__(self, other: Squares) -> "SquareSet":  # type: ignore[override]
+    def __ixor__(self, other: Squares) -> "SquareSet":  # type: ignore[override]  # (a set of squares takes only squares)
         self.symmetric_difference_update(other)
         return self
 
@@ -193,8 +193,7 @@ class SquareSet(MutableSet[int]):
     def __eq__(self, other: object) -> bool:
         return self.mask == int(other) if isinstance(other, (int, SquareSet)) else super().__eq__(other)
 
-    # (it can be changed)
-    __hash__ = None  # type: ignore[assignment]
+    __hash__ = None  # type: ignore[assignment]  # (it can be changed)
 
     def __repr__(self) -> str:
         return f"SquareSet(0x{self.mask:_x})" if self.mask < 1 << 16 else f"SquareSet(0x{self.mask:016_x})"

@@ -84,7 +84,9 @@ class PovWdl:
         return 3
 
     def __eq__(self, other: object) -> bool:
-        return self.white() == other.white() if isinstance(other, PovWdl) else NotImplemented
+        if not isinstance(other, PovWdl):
+            return NotImplemented
+        return self.white() == other.white()
 
     def __hash__(self) -> int:
         return hash(self.white())

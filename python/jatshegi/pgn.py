@@ -497,7 +497,7 @@ def _tree(top: Node, root: Game, data: bytes) -> str:
             node._comment = " ".join(word.decode(root._encoding, "surrogateescape").split("\n"))
         elif word == "(":
             left.append(node)
-            node = top if node._parent is root else node._parent  # type: ignore[assignment]
+            node = top if node._parent is root else node._parent  # type: ignore[assignment]  # (a node below the root has a parent)
         elif word == ")":
             node = left.pop()
         elif word[0] == "$":

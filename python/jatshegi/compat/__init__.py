@@ -19,9 +19,10 @@ from .._moves import parse_square, square, square_file, square_name, square_rank
 from .._squares import *
 from .._status import Outcome, Termination
 from . import _aside, _names, pgn, polyglot, svg
-from ._boards import Board, LegalMoveGenerator
+from ._boards import Board
 from ._men import BaseBoard
 from ._names import *
+from ._order import LegalMoveGenerator
 
 if TYPE_CHECKING:
     from . import engine as engine

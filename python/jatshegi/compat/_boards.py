@@ -1,7 +1,7 @@
 """The board of python-chess over the library's."""
 from __future__ import annotations
 
-from typing import Any, Callable, Dict, Iterable, Iterator, Optional, Tuple, Type, TypeVar, Union
+from typing import Any, Callable, Dict, Iterable, Iterator, List, Optional, Tuple, Type, TypeVar, Union
 
 from .. import _board
 from .. import _library as c
@@ -421,7 +421,7 @@ class Board(BaseBoard):
             return NotImplemented
         return (self._position(False, "legal"), self.halfmove_clock, self.fullmove_number) == (other._position(False, "legal"), other.halfmove_clock, other.fullmove_number)
 
-    __hash__ = None  # type: ignore[assignment]
+    __hash__ = None  # type: ignore[assignment]  # (it can be changed)
 
     # ---- moves
 
@@ -565,7 +565,8 @@ class Board(BaseBoard):
 
     def variation_san(self, variation: Iterable[Move]) -> str:
         """The moves in turn with their numbers. Raises `IllegalMoveError`."""
-        board, words = self.copy(stack=False), []
+        board = self.copy(stack=False)
+        words: List[str] = []
         for move in variation:
             if board.turn or not words:
                 words.append(f"{board.fullmove_number}{'.' if board.turn else '...'}")

@@ -28,7 +28,7 @@ def _text(board: Board, name: str, operand: Any) -> str:
     if operand is None:
         return ""
     if isinstance(operand, _moves.Move):
-        return board.san(operand)  # type: ignore[arg-type]
+        return board.san(operand)  # type: ignore[arg-type]  # (a move of the package has the same fields)
     if isinstance(operand, (int, float)):
         if not math.isfinite(operand):
             raise ValueError(f"a number of an EPD is finite: {operand}")

@@ -276,7 +276,7 @@ class BaseBoard:
             return NotImplemented
         return self._men_now() == other._men_now()
 
-    __hash__ = None  # type: ignore[assignment]
+    __hash__ = None  # type: ignore[assignment]  # (it can be changed)
 
     def __repr__(self) -> str:
         return f"{type(self).__name__}({self.board_fen()!r})"

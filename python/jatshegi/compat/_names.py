@@ -514,7 +514,7 @@ class Piece(_pieces.Piece):
         return cls(*_pieces.Piece.from_symbol(symbol).__getnewargs__())
 
     def __new__(cls, piece_type: PieceType, color: Color) -> Piece:
-        return super().__new__(cls, piece_type, color)  # type: ignore[return-value]
+        return super().__new__(cls, piece_type, color)
 
     def unicode_symbol(self, *, invert_color: bool = False) -> str:
         """The piece's figure."""
@@ -625,13 +625,13 @@ class SquareSet(_sets.SquareSet):
         """Whether each of the other's squares is one of these."""
         return not _word(other) & ~self.mask
 
-    def __or__(self, other: IntoSquareSet) -> SquareSet:  # type: ignore[override]
+    def __or__(self, other: IntoSquareSet) -> SquareSet:  # type: ignore[override]  # (a set of squares takes only squares)
         return self.union(other)
 
     def __and__(self, other: IntoSquareSet) -> SquareSet:
         return self.intersection(other)
 
-    def __xor__(self, other: IntoSquareSet) -> SquareSet:  # type: ignore[override]
+    def __xor__(self, other: IntoSquareSet) -> SquareSet:  # type: ignore[override]  # (a set of squares takes only squares)
         return self.symmetric_difference(other)
 
     def __sub__(self, other: IntoSquareSet) -> SquareSet:
@@ -653,11 +653,11 @@ class SquareSet(_sets.SquareSet):
 
     def __eq__(self, other: object) -> bool:
         try:
-            return self.mask == _word(other)  # type: ignore[arg-type]
+            return self.mask == _word(other)  # type: ignore[arg-type]  # (another type is a TypeError, caught below)
         except (TypeError, ValueError):
             return NotImplemented
 
-    __hash__ = None  # type: ignore[assignment]
+    __hash__ = None  # type: ignore[assignment]  # (it can be changed)
 
     def __repr__(self) -> str:
         return f"SquareSet({self.mask:#021_x})"

@@ -72,8 +72,8 @@ class MoveStack(List[Move]):
     def _refuse(self, *words: Any, **named: Any) -> NoReturn:
         raise TypeError("moves are made by push(), and taken back by pop() or clear_stack()")
 
-    append = clear = extend = insert = pop = remove = reverse = sort = _refuse  # type: ignore[assignment]
-    __delitem__ = __iadd__ = __imul__ = __setitem__ = _refuse  # type: ignore[assignment]
+    append = clear = extend = insert = pop = remove = reverse = sort = _refuse  # type: ignore[assignment]  # (a list of moves that only its board changes)
+    __delitem__ = __iadd__ = __imul__ = __setitem__ = _refuse  # type: ignore[assignment]  # (a list of moves that only its board changes)
 
     def __reduce_ex__(self, protocol: Any) -> Any:
         return list, (list(self),)

@@ -278,7 +278,7 @@ class SimpleEngine(_engine.SimpleEngine):
             self._send("stop")
         super()._settle()
 
-    def play(  # type: ignore[override]
+    def play(  # type: ignore[override]  # (python-chess has other parameters)
         self,
         board: Board,
         limit: Limit,
@@ -297,7 +297,7 @@ class SimpleEngine(_engine.SimpleEngine):
         move, awaited = (None if it is None else OURS[it] for it in (found.move, found.ponder))
         return PlayResult(move, awaited, _ours(found.info))
 
-    @overload  # type: ignore[override]
+    @overload  # type: ignore[override]  # (python-chess has other parameters)
     def analyse(
         self, board: Board, limit: Limit, *, multipv: None = None, game: object = None, info: Info = INFO_ALL, root_moves: Optional[Iterable[Move]] = None, options: _Options = {}
     ) -> InfoDict: ...

@@ -34,7 +34,7 @@ def zobrist_hash(board: Board) -> int:
 
 def _plain(book: _polyglot.Reader, place: int) -> Entry:
     """An entry as the file has it, whose move is one from square to square, of no position."""
-    key, raw, weight, learn = struct.unpack(">QHHI", bytes(book._bytes[16 * place : 16 * place + 16]))
+    key, raw, weight, learn = struct.unpack_from(">QHHI", book._bytes, 16 * place)
     became = raw >> 12 & 7
     return Entry(key, raw, weight, learn, Move(raw >> 6 & 63, raw & 63, became + 1 if became else None))
 
