@@ -21,6 +21,8 @@ from ._stops import ANY_NUMBER, Flag, run, stoppable
 from ._tags import Tags
 
 if TYPE_CHECKING:
+    import inspect
+
     from .pgn import Game
 
 _FAULTS = [
@@ -76,7 +78,7 @@ _Board = TypeVar("_Board", bound="Board")
 class _Signature:
     """The signature of a class as its `__init__` has it: `__new__` of a board takes any words, so that the classes of callers do."""
 
-    def __get__(self, board: object, of: Type[Any]) -> Any:
+    def __get__(self, board: object, of: Type[object]) -> inspect.Signature:
         import inspect
 
         _, *words = inspect.signature(of.__init__).parameters.values()
@@ -98,7 +100,7 @@ class Board(Core, Calls, Habits):
     __slots__ = ("__weakref__", "_at", "_searches", "encoding")
     __signature__ = _Signature()
 
-    def __new__(cls: Type[_Board], *words: Any, **named: Any) -> _Board:
+    def __new__(cls: Type[_Board], *words: object, **named: object) -> _Board:
         self = super().__new__(cls)
         self._at = byref(c.Slot.from_address(self._address))
         return self
@@ -190,7 +192,7 @@ class Board(Core, Calls, Habits):
         return other
 
     # For pickle: a function that makes the board anew, its words, and what else a class of the caller's own keeps.
-    def __reduce__(self) -> Tuple[Callable[..., Any], Tuple[Any, ...], Optional[Dict[str, Any]]]:
+    def __reduce__(self) -> Tuple[Callable[..., Board], Tuple[object, ...], Optional[Dict[str, Any]]]:
         with self._lock:
             words = type(self), self.encoding, self._game(), self._bytes(b"path"), tuple(self._made)
             state = self._state() or None

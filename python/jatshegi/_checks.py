@@ -2,10 +2,10 @@
 from __future__ import annotations
 
 from operator import index
-from typing import Any, Optional
+from typing import Optional, SupportsIndex, Tuple, Union
 
 
-def whole(number: Any, what: str, least: int, most: Optional[int] = None) -> int:
+def whole(number: SupportsIndex, what: str, least: int, most: Optional[int] = None) -> int:
     """The whole number, of that range."""
     try:
         found = index(number)
@@ -16,12 +16,12 @@ def whole(number: Any, what: str, least: int, most: Optional[int] = None) -> int
     return found
 
 
-def square_of(square: Any) -> int:
+def square_of(square: SupportsIndex) -> int:
     """The number of a square."""
     return whole(square, "a square is a number of 0 to 63", 0, 63)
 
 
-def colour_of(color: Any) -> bool:
+def colour_of(color: object) -> bool:
     """The colour, which 1 and 0 are, too."""
     if not isinstance(color, int):
         raise TypeError(f"a colour is WHITE (True) or BLACK (False): {color!r}")
@@ -30,19 +30,19 @@ def colour_of(color: Any) -> bool:
     return bool(color)
 
 
-def depth_of(depth: Any) -> int:
+def depth_of(depth: SupportsIndex) -> int:
     """The depth of a search."""
     return whole(depth, "a depth is 1 to 16 plies", 1, 16)
 
 
-def text_of(text: Any, what: str) -> str:
+def text_of(text: object, what: str) -> str:
     """The text, which is what is said."""
     if not isinstance(text, str):
         raise TypeError(f"{what}: {text!r}")
     return text
 
 
-def one_of(it: Any, kind: Any, what: str) -> None:
+def one_of(it: object, kind: Union[type, Tuple[type, ...]], what: str) -> None:
     """Passes an object of that class."""
     if not isinstance(it, kind):
         raise TypeError(f"{what}: {it!r}")

@@ -127,7 +127,7 @@ class Plain:
     _lock: Any
     _made: List[bool]
 
-    def __new__(cls: Type[_Plain], *words: Any, **named: Any) -> _Plain:
+    def __new__(cls: Type[_Plain], *words: object, **named: object) -> _Plain:
         self = super().__new__(cls)
         self._slot, self._lock, self._made = c.Slot(), threading.RLock(), []
         self._at = byref(self._slot)

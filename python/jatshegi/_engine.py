@@ -4,7 +4,7 @@ from __future__ import annotations
 import ctypes
 import threading
 from ctypes import byref, c_bool, c_char, c_size_t, c_uint64
-from typing import Any, Callable, List, Optional, Tuple
+from typing import Any, Callable, List, NoReturn, Optional
 
 from . import _library as c
 from ._checks import text_of, whole
@@ -48,7 +48,7 @@ class Engine:
         if c is not None and hasattr(self, "_at"):
             c.lib.jatshegi_board_free(self._at)
 
-    def __reduce__(self) -> Tuple[Any, ...]:
+    def __reduce__(self) -> NoReturn:
         raise TypeError("a session of the engine has no copy: begin another one, and tell it the same lines")
 
     # Whether another thread is on the session in the name of this one, which has the lock.

@@ -2,11 +2,11 @@
 from __future__ import annotations
 
 import re
-from typing import TYPE_CHECKING, Any, Dict, Iterable, Mapping, NamedTuple, Optional, Tuple
+from typing import TYPE_CHECKING, Dict, Iterable, Mapping, NamedTuple, Optional, Tuple
 
 from . import _library as c
 from ._checks import colour_of, one_of, square_of, whole
-from ._moves import QUEEN, SQUARE_NAMES, Move
+from ._moves import QUEEN, SQUARE_NAMES, LegalMoves, Move
 from ._pieces import BY_LETTER, Piece
 from ._sets import SquareSet
 from ._status import Outcome, Status
@@ -22,12 +22,16 @@ class Habits:
 
     if TYPE_CHECKING:
         # What a board has.
-        turn: Any
-        status: Any
-        legal_moves: Any
-        halfmove_clock: Any
-        fullmove_number: Any
-
+        @property
+        def turn(self) -> bool: ...
+        @property
+        def status(self) -> Status: ...
+        @property
+        def legal_moves(self) -> LegalMoves: ...
+        @property
+        def halfmove_clock(self) -> int: ...
+        @property
+        def fullmove_number(self) -> int: ...
         def piece_map(self) -> Dict[int, Piece]: ...
         def _men(self) -> bytes: ...
         def _attacks(self, which: int) -> int: ...

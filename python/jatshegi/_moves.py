@@ -101,22 +101,22 @@ class Move(_Parts):
     def _order(self) -> Tuple[int, int, int]:
         return self.from_square, self.to_square, self.promotion or 0
 
-    def __lt__(self, other: Any) -> bool:
+    def __lt__(self, other: object) -> bool:
         if not isinstance(other, Move):
             return NotImplemented
         return self._order() < other._order()
 
-    def __le__(self, other: Any) -> bool:
+    def __le__(self, other: object) -> bool:
         if not isinstance(other, Move):
             return NotImplemented
         return self._order() <= other._order()
 
-    def __gt__(self, other: Any) -> bool:
+    def __gt__(self, other: object) -> bool:
         if not isinstance(other, Move):
             return NotImplemented
         return self._order() > other._order()
 
-    def __ge__(self, other: Any) -> bool:
+    def __ge__(self, other: object) -> bool:
         if not isinstance(other, Move):
             return NotImplemented
         return self._order() >= other._order()

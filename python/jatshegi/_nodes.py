@@ -1,7 +1,7 @@
 """The nodes of a game: a move each, with what is said of it and what follows."""
 from __future__ import annotations
 
-from typing import TYPE_CHECKING, AbstractSet, Any, Callable, Generic, Iterable, Iterator, List, Optional, Sequence, Tuple, TypeVar, Union, cast, overload
+from typing import TYPE_CHECKING, AbstractSet, Callable, Generic, Iterable, Iterator, List, Optional, Sequence, Tuple, TypeVar, Union, cast, overload
 
 from ._board import Board
 from ._checks import one_of
@@ -457,7 +457,7 @@ class Node:
         return self.accept(StringExporter(columns=None))
 
     # For pickle: the game, and the places on the way.
-    def __reduce__(self) -> Tuple[Callable[..., Any], Tuple[Any, ...]]:
+    def __reduce__(self) -> Tuple[Callable[..., Node], Tuple[object, ...]]:
         places = [node._place() for node in self._way() if node._parent is not None]
         return _node_at, (self.game(), tuple(places[::-1]))
 

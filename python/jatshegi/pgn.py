@@ -481,7 +481,7 @@ class Game(Node):
                 data = self._data = self._edits.text()
         return data
 
-    def __reduce__(self) -> Tuple[Callable[..., Any], Tuple[Any, ...]]:
+    def __reduce__(self) -> Tuple[Callable[..., Game], Tuple[object, ...]]:
         return _game, (bytes(self), self._encoding, self._started)
 
     def __repr__(self) -> str:
@@ -724,11 +724,11 @@ class _File:
 
 
 # The files that are read, as long as anybody has them.
-_FILES: "weakref.WeakKeyDictionary[Any, _File]" = weakref.WeakKeyDictionary()
+_FILES: "weakref.WeakKeyDictionary[object, _File]" = weakref.WeakKeyDictionary()
 _FINDING = threading.Lock()
 
 
-def _file_of(file: Any) -> _File:
+def _file_of(file: object) -> _File:
     """What is known of an open file."""
     with _FINDING:
         if file not in _FILES:

@@ -11,7 +11,7 @@ from __future__ import annotations
 
 import html
 import math
-from typing import Any, Dict, Iterable, Iterator, List, Mapping, NamedTuple, Optional, Tuple, Union
+from typing import Dict, Iterable, Iterator, List, Mapping, NamedTuple, Optional, Tuple, Union
 
 from ._board import Board
 from ._checks import colour_of, one_of, square_of, text_of, whole
@@ -116,7 +116,7 @@ def _arrow(arrow: Arrow, at: Mapping[int, Tuple[float, float]], colours: Mapping
 
 
 # The colours, where the words of a picture are such as it takes.
-def _checked(board: Any, orientation: Any, lastmove: Any, fill: Any, colors: Any) -> Dict[str, str]:
+def _checked(board: object, orientation: bool, lastmove: Optional[Move], fill: Mapping[int, str], colors: Mapping[str, str]) -> Dict[str, str]:
     if board is not None:
         one_of(board, (Board, Mapping), "a picture is of a Board, of a mapping from squares to men, or of None")
     if lastmove is not None:

@@ -79,7 +79,7 @@ class Board(BaseBoard):
         return found
 
     @classmethod
-    def from_epd(cls: Type[_Of], epd: str, *, chess960: bool = False) -> Tuple[_Of, Dict[str, Any]]:
+    def from_epd(cls: Type[_Of], epd: str, *, chess960: bool = False) -> Tuple[_Of, Dict[str, _epd.Operand]]:
         """The board of an EPD and its operations."""
         board = cls.empty()
         return board, board.set_epd(epd)
@@ -332,11 +332,11 @@ class Board(BaseBoard):
         """The castling field of the FEN."""
         return self._position(False, "legal").split()[2]
 
-    def epd(self, *, shredder: bool = False, en_passant: str = "legal", promoted: Optional[bool] = None, **operations: Any) -> str:
+    def epd(self, *, shredder: bool = False, en_passant: str = "legal", promoted: Optional[bool] = None, **operations: _epd.Given) -> str:
         """The first four fields of the FEN, and the operations."""
         return " ".join([self._position(shredder, en_passant), *_epd.written(self, operations)])
 
-    def set_epd(self, epd: str) -> Dict[str, Any]:
+    def set_epd(self, epd: str) -> Dict[str, _epd.Operand]:
         """Begins a game from an EPD, and returns its operations; `hmvc` and `fmvn` are its counters. Raises `ValueError`."""
         parts = epd.strip().rstrip(";").split(None, 4)
         if not parts:
@@ -413,7 +413,7 @@ class Board(BaseBoard):
     def _transposition_key(self) -> str:
         return self._position(False, "legal")
 
-    def __reduce__(self) -> Any:
+    def __reduce__(self) -> Tuple[object, ...]:
         return _restored, (type(self), self._it, self._set, self._refusal, self._past)
 
     def __eq__(self, other: object) -> bool:

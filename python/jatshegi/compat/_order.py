@@ -1,7 +1,7 @@
 """The legal moves of a board, in the order of python-chess, and the moves that were made."""
 from __future__ import annotations
 
-from typing import TYPE_CHECKING, Any, Iterator, List, NoReturn
+from typing import TYPE_CHECKING, Iterator, List, NoReturn, SupportsIndex, Tuple
 
 from .. import _moves
 from ._names import KNIGHT, OURS, Move
@@ -69,11 +69,11 @@ class MoveStack(List[Move]):
 
     __slots__ = ()
 
-    def _refuse(self, *words: Any, **named: Any) -> NoReturn:
+    def _refuse(self, *words: object, **named: object) -> NoReturn:
         raise TypeError("moves are made by push(), and taken back by pop() or clear_stack()")
 
     append = clear = extend = insert = pop = remove = reverse = sort = _refuse  # type: ignore[assignment]  # (a list of moves that only its board changes)
     __delitem__ = __iadd__ = __imul__ = __setitem__ = _refuse  # type: ignore[assignment]  # (a list of moves that only its board changes)
 
-    def __reduce_ex__(self, protocol: Any) -> Any:
+    def __reduce_ex__(self, protocol: SupportsIndex) -> Tuple[object, ...]:
         return list, (list(self),)
