@@ -117,7 +117,7 @@ abbrev pub gives_start : List (List ℕ) → PositionParts → Bool
 gives_start (placement ∷ side ∷ castling ∷ target ∷ counters) p = same_rights (rights_of castling) p.rights && bytes_eq target (target_text p.target)
 gives_start _ p = false
 
--- its fields, which spaces separate as FEN is read, give castling rights or a target that the position doesn't have; no tag says nothing
+-- its fields, which spaces separate as in FEN, give castling rights or a target that the position doesn't have; without a tag, nothing is changed
 abbrev pub is_changed : Option (List ℕ) → PositionParts → Bool
 is_changed None p = false
 is_changed (Some given) p = not (gives_start (words (codes " ") given) p)

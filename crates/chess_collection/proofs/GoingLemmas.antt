@@ -62,7 +62,7 @@ tiles_front handles white whole number offset left (s ∷ ss) rest (w, a, l, e, 
     let more = tiles_front handles white whole (suc number) (offset + length s.bytes) a ss rest t in
     (s.bytes ++ more.0, p ∙ ap (λ (z : List ℕ). s.bytes ++ z) more.1 ∙ sym (append_assoc s.bytes more.0 rest))
 
--- of bytes after which none came
+-- of the last bytes that came
 last-more : (handles : Handles) (number offset : ℕ) (left : List ℕ) (ss : List Stretch) (s : Stretch) (rest after : List ℕ) (here : ℕ) → offset + length left ≡ here + length rest → TilesLast handles number offset left ss rest
     → handles (number + length ss) here rest (length s.bytes) s.fate s.text → rest ≡ s.bytes ++ after → 0 < length after → TilesLast handles number offset left (ss ++ s ∷ []) after
 last-more handles number offset left [] s rest after here placed t handled parts ahead =
@@ -433,7 +433,7 @@ module _ {R W : Type 0} (gives : R → List ℕ → R → Type 0) (failed : R �
       let g = more_at_hand u last page w before bytes passed bad f comes in
       (g.ss, last.bytes, no_later g.ss g.text last new.source bytes g.placed g.reaches loses, g.sent)
 
-  -- a read failed, and what is at hand was gone over
+  -- after a failed read: stretches of the bytes at hand
   module _ (u mid new : Window R) (page page1 : List ℕ) (w w1 : W) (before bytes passed bad : ℕ) (f : State u page w before bytes passed bad) (breaks : BreaksOff gives failed ended white u mid by.Read) (same : new.source ≡ mid.source) where
     came : State breaks.0 page w before bytes passed bad
     came = more_at_hand u breaks.0 page w before bytes passed bad f breaks.1
@@ -503,7 +503,7 @@ module _ {R W : Type 0} (gives : R → List ℕ → R → Type 0) (failed : R �
 
 -- ---- after a failed read
 
--- what is gone over of the bytes at hand
+-- the stretches so far of the bytes at hand
 pub record LateSoFar {W : Type 0} (handles : Handles) (takes : W → List ℕ → W → Type 0) (write_failed : W → Bool) (before offset : ℕ) (left page0 : List ℕ) (w0 : W) (done at : ℕ) (now page : List ℕ) (w : W) : Type 0 where
   pub late : List Stretch
   pub tiles : TilesLast handles (suc before) offset left late now

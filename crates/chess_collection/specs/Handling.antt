@@ -4,20 +4,20 @@
 --   IsEarly      a good game ends before the last byte of a text, so that more bytes change nothing of it
 --   Tiles        stretches of some bytes, one after another, without a gap, each handled by its number and the number of bytes before it, as the bytes that are
 --                looked at where it begins say; and the bytes after them
---   TilesLast    stretches of bytes after which none came, one after another, each handled as if the source had ended there, and each ends before the last byte
---   IsOpenEnd       what is left of those: white, or a stretch of all of them, which bytes to come might have made longer
+--   TilesLast    stretches of the last bytes that came, one after another; the handler gets these bytes as if the source had ended, and each stretch ends before
+--                the last byte
+--   IsOpenEnd    the bytes after such stretches are white, or one stretch of all of them, which more bytes might have made longer
 --   written_of   what is written of stretches
 --   bad_in       how many games can't be read, and count; passed_in, how many bytes are passed over
---   Reaches      bytes came from a source of which `reads` reads may be made, and stretches of them go up to what is at hand, whatever comes next; few bytes
+--   Reaches      bytes came from a source that may be read `reads` times, and stretches of them go up to the bytes at hand, whichever bytes come next; few bytes
 --                are at hand
---   ReachesOn    stretches are reached; and where a read failed then, or there may be no more, so are stretches of what is at hand (`TilesLast`)
+--   ReachesOn    stretches are reached; if a read failed then, or there may be no more, they go on into the bytes at hand (`TilesLast`)
 --   HasTotals    how many stretches there are, and bytes of them and after them, and bytes that are passed over; and how many games can't be read, and count
---   IsCutShort   nothing is lost of what was read: a read failed, or there may be no more, and what is left of all that came is no stretch that ends before its
---                last byte (`IsOpenEnd`); or there were as many stretches as may be
---   IsSentWhole    a text is carried to a sink, whole and no more, and no call failed
---   GoesOver     how going over a collection ends: it has ended, and nothing but what the handler calls white comes after the stretches; or it is cut short, and
---                what is written of all stretches is written; or there was no memory, and what is written of all before is written; or there was none to begin
---                with; or a write failed, and a prefix of it is written
+--   IsCutShort   a read failed, or there may be no more, and the stretches have all bytes that came but an open end (`IsOpenEnd`)
+--   IsSentWhole  a text is carried to a sink, whole and no more, and no call failed
+--   GoesOver     the end of a run over a collection: the source has ended, and only bytes that the handler calls white come after the stretches; or the run is cut
+--                short, and the texts of all stretches are written; or there was no memory, and the texts of the stretches before are written, or, if there was no
+--                memory at the start, nothing; or a write failed, and a prefix of the texts is written
 use Rattle.std.specs.Prelude.{◌≡◌, ◌⊎◌, ◌<◌, ℕ, ◌+◌, suc, Bool, true, List, [], ◌∷◌, ◌++◌, length, Result, Ok, Err}
 use Rattle.byte_streams.specs.Calls.{Carries}
 use Rattle.chess_loop.specs.RunEnds.{Broken}
@@ -101,7 +101,7 @@ module _ {R : Type 0} (gives : R → List ℕ → R → Type 0) (failed : R → 
     pub few : AreFew white text now.bytes
     pub tiles : (more : List ℕ) → (now.has_ended ≡ true → more ≡ []) → Tiles handles white (text ++ more) 1 0 (text ++ more) ss (now.bytes ++ more)
 
-  -- the first stretches, up to what was at hand when reading ended, and those after them
+  -- the first stretches, up to the bytes at hand at the last read, and the stretches of these bytes
   pub record ReachesOn (source : R) (ss : List Stretch) (rest : List ℕ) (new : R) : Type 0 where
     pub first : List Stretch
     pub text : List ℕ

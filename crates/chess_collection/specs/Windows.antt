@@ -5,13 +5,13 @@
 --   Comes    more bytes came, and are at hand after the others; no read failed, and none was made after the end was seen
 --   ReadEnds    the next read failed, or there may be no more
 --   Loses    at most 65,536 bytes came, and there was no memory for them
---   NoMore   bytes came, of which something holds, and then a read failed, or there may be no more, and all that came are at hand; or there was no memory
+--   NoMore   bytes came, something holds of them, and then a read failed, or there may be no more, and all bytes that came are at hand; or there was no memory
 --   IsWide   as many bytes are at hand as are looked at for a game, which are more than it may have; or all that are left
 --   most_at_hand  the most bytes at hand: 1,245,184
 --   HasRun   some bytes have a run that a handler calls white, at least half as long as a length, but for 65,536
 --   AreFew   no more bytes of a text are at hand than `most_at_hand`; or the text has a run of white at least half as long
 --   StayFew  the bytes at hand are no more than before, or than `most_at_hand`; or they begin with such a run
---   IsLookedAt   bytes that are looked at: all that are left, or the first of them, 1,179,648 at least, or fewer where they are enough; and few of the whole text
+--   IsLookedAt   the handler gets these bytes: all that are left, or the first 1,179,648 or more of them, or fewer if they are enough; and few of the whole text
 use Rattle.std.specs.Prelude.{◌≡◌, ◌⊎◌, ◌≤◌, ℕ, ◌+◌, ◌*◌, Bool, true, false, List, [], ◌++◌, length}
 use Rattle.byte_streams.specs.Calls.{Carries}
 use Rattle.chess_command_line.specs.declared.collection.Failure.{Failure}

@@ -1,9 +1,9 @@
 -- Going over a collection, step by step.
 --   BreaksOff  no stretch comes: a read failed, or there may be no more, and all that came is at hand; or there was no memory
 --   IsEnough   the bytes at hand are looked at for a stretch: as many as for any, or all, or a good game ends before the last of them
---   IsSent     what is written of stretches is sent, whatever was sent before; IsBroken, sending it broke off
---   Finishes   how going over what is at hand ends, of which nothing more comes
---   Fills      how going over a collection ends: what is written of its stretches is on the page or sent, or sending it broke off
+--   IsSent     the texts of stretches are sent after all that was sent before; IsBroken, a write of them failed
+--   Finishes   the end of a run over the last bytes that came
+--   Fills      the end of a run over a collection: the texts of its stretches are on the page or sent, or a write of them failed
 --   has_broken  a write has failed
 use Rattle.std.specs.Prelude.{◌≡◌, ◌⊎◌, ◌+◌, ℕ, suc, Bool, true, false, List, ◌++◌, length, Result, Ok, Err}
 use Rattle.chess_loop.specs.RunEnds.{Broken}
@@ -41,7 +41,7 @@ module _ (handles : Handles) {W : Type 0} (takes : W → List ℕ → W → Type
 
   -- after `before` stretches of `offset` bytes
   module _ (white : List ℕ → Type 0) (before offset : ℕ) (left : List ℕ) where
-    -- what is left, and where it is
+    -- the bytes that are left, and their place
     pub record IsLast (late : List Stretch) (rest : List ℕ) : Type 0 where
       pub place : ℕ
       pub placed : place + length rest ≡ offset + length left

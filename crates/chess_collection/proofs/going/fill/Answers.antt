@@ -47,7 +47,7 @@ returns-in-Err-Memory g c =
 pub returns-in-Err-Write : goal.returns-in-Err-Write
 returns-in-Err-Write g c = absurd (subst (λ f. BreaksOff g.R.Source.gives g.R.Source.failed g.R.Source.ended g.H.GameHandler.white c.loop-before.window c.next_handled.new.window f) c.in-Err-Write.field-0-is c.in-Err-Write.ensures.broken)
 
--- a read failed, and what is at hand was gone over
+-- after a failed read: stretches of the bytes at hand
 pub returns-in-Err-Read : goal.returns-in-Err-Read
 returns-in-Err-Read g c =
     finished g.R.Source.gives g.R.Source.failed (λ n o b u is t. g.H.GameHandler.handles c.args.handler.now n o b u is t) g.H.GameHandler.white g.W.Sink.takes g.W.Sink.failed g.R.Source.ended c.args.window.now c.args.page.now c.args.writer.now

@@ -2,7 +2,7 @@ use Rattle.std.proofs.Common.{◌≡◌}
 use Rattle.chess_collection.proofs.GoingLemmas.{LateSoFar}
 use Rattle.chess_collection.proofs.going.finish.Given as goal
 
--- stretches of what is at hand are gone over, and what is written of them is on the page or written
+-- the texts of the stretches so far of the bytes at hand are on the page or written
 abbrev pub invariant-loop-done : goal.invariant-loop-done
 invariant-loop-done g l = record {
   source : l.window.source ≡ l.fn.window.source;
