@@ -32,7 +32,9 @@ enum {
     REPORT = 1000,        /* milliseconds between two lines `info time` in a search, and before the first root is named */
     MOST_DEPTH = 16,      /* plies of the deepest search */
     MOST_NUMBER = 1000000000,  /* a greater number is read as this one, as the session does */
-    REPLY_DEPTH = 3, REPLY_NODES = 20000  /* how deep a reply is searched at most for the line of best replies, and the positions for all of them */
+    REPLY_NODES = 20000,       /* how many positions the replies of a report may ask for together, at least */
+    SHARE = 4,                 /* they may also ask for this part of the positions that the search has visited: a quarter, */
+    TIMED_SHARE = 32           /* and with a clock a 32nd */
 };
 
 /* What was read: lines from `begin` on, up to `end`. A line that is too long is passed over up to its line feed. */
@@ -151,9 +153,15 @@ static bool begins_with(const char *text, const char *end, const char *words) {
 
 static const char report[] = "info depth ", line_of_best[] = " pv ";
 
-/* Looks for the best replies after the move of a report, each by a search of its own, as far as the flag, memory and positions go. */
+/* How many positions the replies of a report may ask for together. */
+static uint64_t reply_nodes(void) {
+    uint64_t share = search.visited / (search.is_timed ? TIMED_SHARE : SHARE);
+    return share > REPLY_NODES ? share : REPLY_NODES;
+}
+
+/* Looks for the best replies after the move of a report, each by a search of its own to the rest of the depth, as far as the flag, memory and positions go. */
 static void search_replies(const char *reply, const char *end) {
-    uint64_t left = REPLY_NODES, visited, depth;
+    uint64_t left = reply_nodes(), visited, depth;
     struct jatshegi_move move;
     const char *text;
     int32_t value;
@@ -165,8 +173,7 @@ static void search_replies(const char *reply, const char *end) {
     if (text < end) text += strlen(line_of_best);
     if (jatshegi_move_read(text, (size_t)(end - text), &move) != JATSHEGI_OK || jatshegi_board_copy(&position, &ahead) != JATSHEGI_OK) return;
     while (depth-- > 1 && replies_after.count < MOST_DEPTH && jatshegi_board_play(&ahead, move, &added) == JATSHEGI_OK) {
-        uint8_t plies = (uint8_t)(depth < REPLY_DEPTH ? depth : REPLY_DEPTH);
-        if (jatshegi_board_best_within(&ahead, plies, left, &stop, &move, &value, &visited) != JATSHEGI_OK) return;
+        if (jatshegi_board_best_within(&ahead, (uint8_t)depth, left, &stop, &move, &value, &visited) != JATSHEGI_OK) return;
         replies_after.moves[replies_after.count++] = move;
         left -= visited;
     }

@@ -119,13 +119,13 @@ class Firefox:
         actions = [{"type": "keyDown", "value": it} for it in keys] + [{"type": "keyUp", "value": it} for it in reversed(keys)]
         self.call("WebDriver:PerformActions", actions=[{"type": "key", "id": "keys", "actions": actions}])
 
-    def drag(self, a, b):
+    def drag(self, a, b, button=0):
         """Goes down with the pointer on the middle of one element and up on that of another, which may be another of its places: an element and how far from its middle."""
         (a, *by), (b, *to) = (it if isinstance(it, tuple) else (it, 0, 0) for it in (a, b))
         def moves(it, x, y):
             return {"type": "pointerMove", "duration": 50, "origin": it.found, "x": x, "y": y}
 
-        steps = [moves(a, *by), {"type": "pointerDown", "button": 0}, moves(a, by[0] + 8, by[1]), moves(b, *to), {"type": "pointerUp", "button": 0}]
+        steps = [moves(a, *by), {"type": "pointerDown", "button": button}, moves(a, by[0] + 8, by[1]), moves(b, *to), {"type": "pointerUp", "button": button}]
         self.call("WebDriver:PerformActions", actions=[{"type": "pointer", "id": "mouse", "parameters": {"pointerType": "mouse"}, "actions": steps}])
 
     def kill(self):

@@ -8,12 +8,26 @@ import dataclasses
 import fcntl
 import mmap
 import os
+import platform
 import shutil
 import subprocess
 import tempfile
+import unittest
 
 TOP = os.path.dirname(os.path.dirname(os.path.realpath(__file__)))
-BUILT = f"{TOP}/crates/chess/out/chess"
+# With JATSHEGI_RELEASED=1 in the environment, tests run over the programs and libraries of release/. Nothing is proved or built then.
+RELEASED = os.environ.get("JATSHEGI_RELEASED") == "1"
+
+
+def program(name):
+    """The path of a program: the released one with JATSHEGI_RELEASED=1, otherwise the built one. Raises `SkipTest` for a program that release/ lacks."""
+    path = f"{TOP}/release/{platform.machine()}-linux/bin/{name}" if RELEASED else f"{TOP}/crates/{name}/out/{name}"
+    if RELEASED and not os.path.exists(path):
+        raise unittest.SkipTest(f"release/ has no program {name}")
+    return path
+
+
+BUILT = program("chess")
 with open(f"{TOP}/VERSION", encoding="utf-8") as text:
     VERSION = text.read().strip()
 
@@ -261,8 +275,17 @@ def builds_for_arm64():
     return len(os.sched_getaffinity(0)) >= 4
 
 
+# The tools whose results release/ contains. JATSHEGI_RELEASED=1 skips a test that needs another tool.
+IN_RELEASE = (("libraries",), ("fast",))
+
+
 def make(tool, *words):
-    """Runs a tool that makes what tests need, unless this process or its parent has run it; an error where that failed."""
+    """Runs a tool that makes what tests need, unless this process or its parent has run it; an error where that failed. With JATSHEGI_RELEASED=1 it runs no tool,
+    and raises `SkipTest` if release/ lacks what the tool makes."""
+    if RELEASED:
+        if (tool, *words) not in IN_RELEASE:
+            raise unittest.SkipTest(f"release/ has nothing in the place of tools/{tool} {' '.join(words)}".rstrip())
+        return
     mark = "_".join(["JATSHEGI", tool, *(it.lstrip("-") for it in words if it != "--gate")]).upper()
     if mark not in os.environ:
         made = subprocess.run([f"{TOP}/tools/{tool}", *words], stdin=subprocess.DEVNULL, capture_output=True, text=True)

@@ -41,6 +41,12 @@ class Arbiter(unittest.TestCase):
     def test_no_game(self):
         self.assertEqual(rows(" \n"), [])
 
+    def test_a_bad_tag_hides_no_move_of_its_game(self):
+        """Strict reading goes on at the next tag, but the row has the game to which the text from the bad tag on is repaired."""
+        first, second = rows('[White "A]\n[Black "B"]\n\n1. e4 e5 *\n')
+        self.assertEqual([first[name] for name in ("fault", "white", "black", "plies")], ["Tag", "A", "B", "2"])
+        self.assertEqual([second[name] for name in ("fault", "white", "black", "plies")], ["", "?", "B", "2"])
+
     def test_a_mate(self):
         self.judge(BLACK_MATES + "0-1", plies="4", result="0-1", status="mate", winner="black", over_ply="", agrees="true",
                    fen="rnb1kbnr/pppp1ppp/8/4p3/6Pq/5P2/PPPPP2P/RNBQKBNR w KQkq - 1 3")

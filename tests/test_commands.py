@@ -1,7 +1,8 @@
 """The commands that the pages show: in each block `console`, a line `$ ..` is run, with the lines `> ..` after it, and what follows is its output. A block `python`
-of the README and of the tutorial is run as it stands, and its comments are its output."""
+of the README, of the tutorial and of the page for data is run as it stands, and its comments are its output."""
 import os
 import re
+import shutil
 import subprocess
 import sys
 import tempfile
@@ -23,6 +24,7 @@ class Commands(unittest.TestCase):
     def test_each_command_writes_what_its_page_shows(self):
         has_node = node_version() >= [20, 19]
         found = [(page, *it) for page in PAGES for it in commands(page) if has_node or not it[0].startswith("node ")]
+        found = [it for it in found if shutil.which("sqlite3") or "sqlite3 $TMPDIR" not in it[1]]
         with tempfile.TemporaryDirectory() as folder:
             for page, command, output in found:
                 with self.subTest(page=page, command=command):
@@ -40,7 +42,7 @@ class Commands(unittest.TestCase):
 
     def test_the_blocks_of_python_run_as_they_stand(self):
         runs.make("libraries", "--gate")
-        for page in ("README.md", "docs/TUTORIAL.md"):
+        for page in ("README.md", "docs/TUTORIAL.md", "docs/DATA.md"):
             blocks = re.findall(r"^```python\n(.*?)^```$", text_of(page), flags=re.M | re.S)
             self.assertTrue(blocks)
             for block in blocks:

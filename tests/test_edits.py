@@ -3,6 +3,7 @@ import copy
 import importlib
 import pickle
 import random
+import re
 import sys
 import threading
 import unittest
@@ -665,6 +666,29 @@ class Visitors(unittest.TestCase):
             for line, after in zip(lines, lines[1:]):
                 self.assertTrue(len(line) < columns or " " not in line)
                 self.assertGreaterEqual(len(line) + 1 + len(after.split()[0]), columns)
+
+    def test_lines_of_another_width_keep_commands_whole(self):
+        command = re.compile(r"\[%[^][]*\]")
+        comments = ["[%clk 0:05:00]", "so [%eval 0.1 2] they say", "[%clk 1][%eval 2 3] x", "a[[%csl Ra1, Gb2]b", "[%open 1 2", "[% [%a b]", "[ %clk 0:01 ]", "[%a b c d e f g h i j]"]
+        game = jatshegi.pgn.Game()
+        node = game.add_line(["e4", "e5", "Nf3", "Nc6", "Bb5", "a6", "Ba4", "Nf6"])
+        for comment, node in zip(comments, game.mainline()):
+            node.comment = comment
+        for columns in (1, 8, 20, 33, 80, None):
+            text = game.accept(jatshegi.pgn.StringExporter(headers=False, columns=columns))
+            lines = text.rstrip("\n").split("\n")
+            self.assertEqual(" ".join(lines), movetext(game))
+            self.assertEqual(sum(len(command.findall(line)) for line in lines), len(command.findall(movetext(game))), columns)
+            for line in lines:
+                self.assertTrue(columns is None or len(line) < columns or " " not in command.sub("", line), line)
+            self.assertEqual([it.comment for it in jatshegi.pgn.read_game(text).mainline()], [it.comment for it in game.mainline()])
+        # The export form has its own breaks.
+        self.assertEqual(game.accept(jatshegi.pgn.StringExporter()), str(game))
+        # A megabyte of beginnings of commands takes no longer than its length.
+        exporter = jatshegi.pgn.StringExporter(columns=40)
+        exporter.visit_comment("[%" * 200_000)
+        exporter.visit_comment("")
+        self.assertEqual(exporter.result(), "{" + "[%" * 200_000 + "}\n{}")
 
     def test_the_text_of_each_game_is_its_own(self):
         chance = random.Random(80)

@@ -170,6 +170,49 @@ class TheEngine(unittest.TestCase):
             self.assertIn(move, [it.uci() for it in board.legal_moves], (position, report))
             board.push_uci(move)
 
+    def check_score(self, position, report):
+        """Each reply is the best move to the rest of the depth. The line's end is worth the score, if the line goes to the depth or to the end of the game.
+        Says whether it does."""
+        depth, word, number, *moves = re.fullmatch(r"info depth (\d+) score (cp|mate) (-?\d+) .* pv (.*)", report).expand(r"\1 \2 \3 \4").split()
+        left, board = int(depth), board_of(position)
+        side = board.turn
+        for at, move in enumerate(moves):
+            if at:
+                self.assertEqual(board.best(left)[0].uci(), move, (position, report))
+            board.push_uci(move)
+            left -= 1
+        over = board.outcome()
+        if left and over is None:
+            return False
+        if word == "mate":
+            wins = (side if int(number) > 0 else not side)
+            self.assertEqual((over and over.winner, len(moves)), (wins, 2 * abs(int(number)) - (int(number) > 0)), (position, report))
+        else:
+            self.assertEqual(0 if over else board.evaluate() if side else -board.evaluate(), int(number), (position, report))
+        return True
+
+    def test_the_line_is_that_of_its_score(self):
+        """In positions of random games; up to depth 5 no line is cut, and most aren't at depth 6."""
+        chance = random.Random(7)
+        positions = [f"fen {KIWIPETE}", f"fen {SHARP}", "fen 7k/8/8/8/8/8/R7/1R4K1 w - - 0 1", "fen 6k1/5ppp/8/8/8/8/8/R5K1 w - - 0 1"]
+        for _ in range(16):
+            board, moves = board_of("startpos"), []
+            while len(moves) < 40 and len(moves) < chance.randrange(2, 60) and board.outcome() is None:
+                moves.append(chance.choice(board.legal_moves).uci())
+                board.push_uci(moves[-1])
+            positions.append(f"startpos moves {' '.join(moves)}")
+        whole = {}
+        for position in positions:
+            engine = Program()
+            engine.say(f"position {position}")
+            engine.say("go depth 6")
+            engine.wait("bestmove .*")
+            engine.end()
+            for report in [it for it in engine.lines if " pv " in it]:
+                whole.setdefault(int(report.split()[2]), []).append(self.check_score(position, report))
+        self.assertTrue(all(all(whole[depth]) for depth in range(1, 6)), whole)
+        self.assertGreater(sum(whole[6]), len(positions) // 2)
+
     def test_random_moments(self):
         """The replies are those of the session to the recorded events; each search has one `bestmove`, of the session."""
         for seed in range(400):

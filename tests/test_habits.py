@@ -10,6 +10,7 @@ import os
 import pickle
 import pydoc
 import random
+import re
 import shutil
 import struct
 import subprocess
@@ -356,12 +357,12 @@ class Sets(unittest.TestCase):
 
 class Pictures(unittest.TestCase):
     def test_the_men_are_those_of_the_page(self):
-        with open(f"{runs.TOP}/web/index.html", encoding="utf-8") as file:
-            page = file.read()
+        with open(f"{runs.TOP}/web/jatshegi/src/men.js", encoding="utf-8") as file:
+            pictures = file.read()
         shapes = importlib.import_module("jatshegi.svg")._SHAPES
         self.assertEqual(sorted(shapes), sorted("pnbrqk"))
         for letter, shape in shapes.items():
-            self.assertIn(f'<symbol id="{letter}" viewBox="0 0 40 40">{shape}</symbol>', page)
+            self.assertIn(f"  {letter}: '{shape}',\n", pictures)
 
     def test_what_is_drawn(self):
         svg, chess = jatshegi.svg, jatshegi
@@ -658,7 +659,7 @@ class Examples(unittest.TestCase):
         king = head.replace("\n\n", '\n[FEN "4k3/8/8/8/8/8/8/R3K3 w - - 0 1"]\n\n')
         texts = ["1. e4 e5 1-0", "1. e5 *", "1. f3 e5 2. g4 Qh4# 3. e4 1-0", "1. f3 e5 2. g4 Qh4# *", "(", knights * 4 + "e4 1/2-1/2", "1. e4 {", "1. d4 0-1", knights * 2 + "1-0"]
         data = "\n\n".join(head + text for text in texts) + "\n\n" + king + "1. Ra2 Kd7 0-1\n\n" + head + "rubbish\n\n" + head + "1. f3 e5 2. g4 Qh4# 1/2-1/2\n"
-        ran = subprocess.run([f"{runs.TOP}/crates/arbiter/out/arbiter", "--format", "jsonl"], input=data, capture_output=True, text=True)
+        ran = subprocess.run([runs.program("arbiter"), "--format", "jsonl"], input=data, capture_output=True, text=True)
         rows = [json.loads(line) for line in ran.stdout.splitlines()]
         found = {row["number"] for row in rows if row["fault"] or row["over_ply"] or not row["agrees"] or row["left_open"] or row["bare_king_wins"] or row["threefold_ply"]}
         with tempfile.NamedTemporaryFile("w", suffix=".pgn") as file:
@@ -669,6 +670,94 @@ class Examples(unittest.TestCase):
         self.assertEqual(({int(line.split()[1][:-1]) for line in games}, len(found) > 7, len(rows)), (found, True, 12))
         read = [row for row in rows if row["result"]]
         self.assertEqual(sum(int(line.split("/")[1]) for line in shown.splitlines() if line not in games), 2 * len(read))
+
+    EVENING = [
+        ("Wrong winner", '[Round "1"][WhiteElo "1800"][Event "Club evening"]', "1. f3 e5 2. g4 Qh4# 1-0"),
+        ("Frank", '[Round "3"]', "1. e3 a5 2. Qh5 Ra6 3. Qxa5 h5 4. h4 Rah6 5. Qxc7 f6 6. Qxd7+ Kf7 7. Qxb7 Qd3 8. Qxb8 Qh7 9. Qxc8 Kg6 10. Qe6 1-0"),
+        ("Fifth time", "", "Nf3 Nf6 Ng1 Ng8 " * 4 + "e4 1-0"),
+        ("75 moves", '[FEN "4k3/8/8/8/8/8/8/R3K3 b - - 149 80"]', "Kd7 Ra3 1/2-1/2"),
+        ("Missed claim", "", "Nf3 Nf6 Ng1 Ng8 " * 2 + "e4 1-0"),
+        ("Good claim", "", "Nf3 Nf6 Ng1 Ng8 " * 2 + "1/2-1/2"),
+        ("Tag", '[Result "0-1"]', "1. e4 e5 1-0"),
+        ("Illegal move", "", "1. e4 e5 2. Ke3 d5 *"),
+        ("Dead position", '[FEN "4k3/8/8/8/8/8/4p3/4K3 w - - 0 1"]', "1. Kxe2 Kd7 1-0"),
+        ("After mate", "", "1. f3 e5 2. g4 Qh4# 3. e3 0-1"),
+        ("Open", "", "1. f3 e5 2. g4 Qh4# *"),
+        ("King alone", '[FEN "4k3/8/8/8/8/8/8/R3K3 w - - 98 80"]', "Ra2 Kd7 0-1"),
+        ("Other game", '[Variant "Atomic"]', "1. e4 1-0"),
+        ("Castling", '[FEN "4k3/8/8/8/8/8/8/R3K3 w KQ - 0 1"]', "Kf1 1-0"),
+        ("No board", '[FEN "8/8/8/8/8/8/8/8 w - - 0 1"]', "Kf1 1-0"),
+        ("No marker", "", "1. e4"),
+        ("Good", "", "1. f3 e5 2. g4 Qh4# 0-1"),
+        ("<script>alert(1)</script>&amp;\x1b[2J\u202e", "", "1. e4 *"),
+    ]
+
+    def evening(self, *words):
+        """The report of these games."""
+        games = "".join(f'[White "{white}"]\n[Black "Brown"]\n{tags}\n\n{moves}\n\n' for white, tags, moves in self.EVENING)
+        rows = subprocess.run([f"{runs.TOP}/crates/arbiter/out/arbiter", "--format", "jsonl"], input=games.encode(), capture_output=True).stdout.decode()
+        self.assertEqual(rows.count("\n"), len(self.EVENING))
+        return games, rows, self.run_example("arbiter_report.py", *words, given=rows)[0]
+
+    def test_a_report_for_an_arbiter(self):
+        games, rows, shown = self.evening("--text")
+        told = {}
+        for line in shown.splitlines():
+            if line.startswith(("Game ", "All games")):
+                told[line] = found = []
+            elif line.startswith("  * "):
+                found.append(line[4:])
+        unread = "of the file on: no legal move, or more than one, has this text (Move); the diagram shows the position after Black's move"
+        self.assertEqual(told, {
+            "Game 1, round 1, Wrong winner (1800) - Brown": ["Checkmate after Black's move 2; the result 1-0 should be 0-1 (5.1.1)."],
+            "Game 2, round 3, Frank - Brown": ["Stalemate after White's move 10; the result 1-0 should be 1/2-1/2 (5.2.1)."],
+            "Game 3, Fifth time - Brown": [
+                "The same position for the fifth time after Black's move 8: the game was over there, but moves follow; the result 1-0 should be 1/2-1/2 (9.6.1).",
+                "A draw could first be claimed after Black's move 4 by threefold repetition (9.2.2).",
+            ],
+            "Game 4, 75 moves - Brown": [
+                "75 moves in a row without a capture or a pawn's move after Black's move 80: the game was over there, but moves follow (9.6.2).",
+                "A draw could first be claimed in the starting position by fifty moves without a capture or a pawn's move (9.3.2).",
+            ],
+            "Game 5, Missed claim - Brown": ["A draw could first be claimed after Black's move 4 by threefold repetition (9.2.2)."],
+            "Game 7, Tag - Brown": ["The moves end with 1-0, but the tag Result says 0-1 (PGN 8.1.1.7)."],
+            "Game 8, Illegal move - Brown": [f"The text can't be read from byte {games.index('Ke3')} {unread} 1."],
+            "Game 9, Dead position - Brown": [
+                "A dead position after White's move 1: the game was over there, but moves follow; the result 1-0 should be 1/2-1/2 (5.2.2).",
+                "The result 1-0 is a win for a side that has only its king; if time ran out, it should be 1/2-1/2 (6.9).",
+            ],
+            "Game 10, After mate - Brown": [f"The text can't be read from byte {games.index('e3 0-1')} {unread} 2.", "The moves that can be read end with checkmate after Black's move 2 (5.1.1)."],
+            "Game 11, Open - Brown": ["Checkmate after Black's move 2; the game has no result, and it should be 0-1 (5.1.1)."],
+            "Game 12, King alone - Brown": [
+                "The result 0-1 is a win for a side that has only its king; if time ran out, it should be 1/2-1/2 (6.9).",
+                "A draw could first be claimed after Black's move 80 by fifty moves without a capture or a pawn's move (9.3.2).",
+            ],
+            "Game 13, Other game - Brown": ["The tag Variant names another game (Atomic); this report is about the rules of chess."],
+            "Game 14, Castling - Brown": ["The tag FEN has castling rights or an en passant square that its position can't have; they were left out."],
+            "Game 15, No board - Brown": [f"The text can't be read from byte {games.rindex('[FEN')} of the file on: the tag FEN gives no position (Fen)."],
+            "Game 16, No marker - Brown": ["No result follows the moves; the text may have been cut off (PGN 8.2.6)."],
+            "All games": [],
+        })
+        self.assertIn("\n  Club evening\n  * Checkmate", shown)
+        self.assertIn("\n      r n b . k b n r\n", shown)
+        counts = {name: (int(number), bar) for name, number, bar in re.findall(r"(?m)^  (\S.*?) +(\d+)  (#*)$", shown.split("\nAll games\n")[1])}
+        self.assertEqual((counts["games"], counts["the result contradicts the board"], counts["can't be read"]), ((18, "#" * 30), (3, "#####"), (3, "#####")))
+        self.assertEqual([counts[f"result {it}"][0] for it in ("1-0", "0-1", "1/2-1/2", "*", "not known")], [8, 3, 2, 4, 1])
+
+    def test_the_arbiters_page_is_one_file_that_escapes_each_value(self):
+        _, rows, shown = self.evening()
+        self.assertEqual((shown.count("<article>"), shown.count("<svg"), shown.count("url(#check)")), (15, 14, 3))
+        bad = json.dumps({**json.loads(rows.splitlines()[-1]), "event": "</style><b>", "round": '"', "site": "Z\u202e\x07", "variant": "<i>", "other_variant": True, "result_tag": "<u>"})
+        shown, _ = self.run_example("arbiter_report.py", given=f"{bad}\n")
+        cut = "\N{REPLACEMENT CHARACTER}"
+        for part in (f"round &quot;, &lt;script&gt;alert(1)&lt;/script&gt;&amp;amp;{cut}[2J{cut} - Brown</h2>", f">&lt;/style&gt;&lt;b&gt;, Z{cut}{cut}<", "(&lt;i&gt;)"):
+            with self.subTest(part=part):
+                self.assertEqual(shown.count(part), 1)
+        for part in ("<script", "<b>", "<i>", "<u>", "http:", "https:", "url(h", "src=", "\x1b", "\x07", "\u202e"):
+            with self.subTest(part=part):
+                self.assertEqual(shown.replace('xmlns="http://www.w3.org/2000/svg"', "").count(part), 0)
+        shown, _ = self.run_example("arbiter_report.py")
+        self.assertEqual((shown.count("<article>"), shown.count("<td>0</td>")), (0, 1))
 
     def test_puzzles(self):
         given = "7k/8/5K2/8/8/8/8/6Q1 w - - 0 1\t1\n7k/8/5K2/8/8/8/8/6Q1 w - - 0 1\t2\n7k/8/8/8/8/8/8/KR6 w - - 0 1\t2\n8/8/8/8/8/5K2/7R/5k2 w - - 0 1\t2\n"
@@ -748,7 +837,7 @@ class Examples(unittest.TestCase):
         for name in os.listdir(f"{PACKAGE}/examples"):
             if name.endswith((".py", ".ipynb")):
                 with open(f"{PACKAGE}/examples/{name}", encoding="utf-8") as file:
-                    self.assertLess(len(file.read().splitlines()), 60 if name.endswith(".py") else 120, name)
+                    self.assertLess(len(file.read().splitlines()), {".py": 60, ".ipynb": 120}[os.path.splitext(name)[1]] if name != "arbiter_report.py" else 151, name)
 
     def test_pictures(self):
         shown, _ = self.run_example("picture.py", "FILE")

@@ -11,6 +11,7 @@ import shutil
 import subprocess
 import tarfile
 import tempfile
+import time
 import unittest
 
 import firefox
@@ -45,6 +46,20 @@ def packed(folder):
     return tool.npm(folder, words["version"], words, tool.datetime.datetime.fromisoformat(words["date"]).replace(tzinfo=tool.datetime.timezone.utc))
 
 
+# What a person does on the example's board.
+BOARD = """
+    window.board = () => document.querySelector('jatshegi-board');
+    window.square = (name) => board().shadowRoot.querySelector(`[data-square=${name}]`);
+    window.pointer = (a, b, more = {}) => {
+      for (const [kind, name] of [['pointerdown', a], ['pointermove', b], ['pointerup', b]]) {
+        const { x, y, width, height } = square(name).getBoundingClientRect();
+        square(name).dispatchEvent(new PointerEvent(kind, { button: 0, clientX: x + width / 2, clientY: y + height / 2, bubbles: true, composed: true, cancelable: true, ...more }));
+      }
+    };
+    window.key = (name, key, more = {}) => square(name).dispatchEvent(new KeyboardEvent('keydown', { key, bubbles: true, composed: true, cancelable: true, ...more }));
+"""
+
+
 class ItsOwnTests(unittest.TestCase):
     def assert_passes(self, name):
         ran = called("node", "--test", f"{PACKAGE}/test/{name}.test.js")
@@ -65,6 +80,13 @@ class ItsOwnTests(unittest.TestCase):
 
     def test_of_examples(self):
         self.assert_passes("examples")
+
+
+class BesideAPlainBoard(unittest.TestCase):
+    def test_the_same_answers(self):
+        """The board with which speeds are compared says the same as the package."""
+        ran = called("node", f"{PACKAGE}/test/bench.mjs", "--check")
+        self.assertEqual((ran.returncode, ran.stdout, ran.stderr), (0, "", ""))
 
 
 class TheModule(unittest.TestCase):
@@ -132,7 +154,7 @@ class ThePackage(unittest.TestCase):
             shutil.copytree(f"{self.folder}/unpacked/package", f"{project}/node_modules/jatshegi")
         there = f"{project}/node_modules/jatshegi"
         self.assertFalse([name for at, folders, names in os.walk(there) for name in folders + names if os.path.islink(f"{at}/{name}")])
-        for name in sorted(os.listdir(f"{there}/examples")):
+        for name in sorted(it for it in os.listdir(f"{there}/examples") if it.endswith(".mjs")):
             with self.subTest(example=name):
                 shutil.copy(f"{there}/examples/{name}", project)
                 with open(f"{project}/{name}", encoding="utf-8") as file:
@@ -162,7 +184,7 @@ class ThePackage(unittest.TestCase):
         if not shutil.which("esbuild"):
             self.skipTest("esbuild is not on the path")
         project = self.unpacked()
-        ways = {"import { Chess } from 'jatshegi/inline';": ["--platform=browser"], "import { Chess } from 'jatshegi';": ["--platform=browser", "--conditions=worker"], "const { Chess } = require('jatshegi');": ["--platform=browser"],
+        ways = {"import { Chess } from 'jatshegi/inline'; import 'jatshegi/board';": ["--platform=browser"], "import { Chess } from 'jatshegi/inline';": ["--platform=browser"], "import { Chess } from 'jatshegi';": ["--platform=browser", "--conditions=worker"], "const { Chess } = require('jatshegi');": ["--platform=browser"],
                 "import { Chess, start } from 'jatshegi/core'; import wasm from 'jatshegi/jatshegi.wasm'; start(wasm);": ["--platform=browser", "--loader:.wasm=binary"]}
         for first, words in ways.items():
             with open(f"{project}/program.js", "w", encoding="utf-8") as file:
@@ -245,10 +267,81 @@ class InBrowsers(unittest.TestCase):
         self.assertTrue(wanted.startswith("[") and len(json.loads(wanted)) > 200)
         self.assertEqual(got, wanted)
 
+    def assert_shows(self, new_browser):
+        """The example with a board: by mouse, by keys and by touch the board says what a person does, and shows what it is told."""
+        _, browser = self.browser(new_browser)
+        port = browser.execute_script("return location.port")
+        browser.get(f"http://127.0.0.1:{port}/package/examples/board.html")
+        browser.execute_script(BOARD)
+
+        def until(script, wanted):
+            end = time.monotonic() + 30
+            while (found := browser.execute_script(f"return {script}")) != wanted:
+                self.assertLess(time.monotonic(), end, f"{script}: {found}, not {wanted}")
+                time.sleep(0.02)
+
+        fen, said = "board().fen.split(' ')[0]", "document.querySelector('p').textContent"
+        until(fen, "rnbqkbnr/pppppppp/8/8/8/8/PPPPPPPP/RNBQKBNR")
+        until("board().shadowRoot.querySelectorAll('[role=grid] [role=gridcell] .man').length", 32)
+        until("square('e2').getAttribute('aria-label')", "e2, white pawn")
+        until("getComputedStyle(square('a1')).backgroundColor", "rgb(148, 173, 155)")
+        # (a drag, two clicks, touch, keys)
+        browser.execute_script("pointer('e2', 'e4')")
+        until(said, "e4")
+        browser.execute_script("pointer('e7', 'e7'); pointer('e5', 'e5')")
+        until(said, "e4 e5")
+        browser.execute_script("pointer('g1', 'f3', { pointerType: 'touch' })")
+        until(said, "e4 e5 Nf3")
+        until("square('f3').classList.contains('last')", True)
+        browser.execute_script("board().focus(); square('g8').focus(); key('g8', 'Enter'); key('g8', 'ArrowDown'); key('g7', 'ArrowDown', { shiftKey: true }); key('g6', 'ArrowLeft'); key('f6', ' ')")
+        until(said, "e4 e5 Nf3 Nf6")
+        # (what is no move is said to be none)
+        browser.execute_script("window.told = []; for (const kind of ['move', 'refused', 'shape']) board().addEventListener(kind, ({ detail }) => told.push([kind, detail])); pointer('f3', 'f4')")
+        until("JSON.stringify(told)", '[["refused",{"lan":"f3f4","from":"f3","to":"f4"}]]')
+        until(said, "e4 e5 Nf3 Nf6")
+        # (arrows and circles, but where nobody may draw)
+        browser.execute_script("pointer('e4', 'e5', { button: 2 }); pointer('d5', 'd5', { button: 2, shiftKey: true })")
+        until("board().shapes.join(' ')", "Ge4e5 Rd5")
+        until("board().shadowRoot.querySelectorAll('.shapes > *').length", 2)
+        browser.execute_script("board().draws = false")
+        until("[board().hasAttribute('draws'), told.length].join()", "false,3")
+        browser.execute_script("setTimeout(() => { pointer('e4', 'e5', { button: 2 }); window.tried = true; })")
+        until("[window.tried, told.length].join()", "true,3")
+        # (turned, at another size)
+        browser.execute_script("board().turned = true; board().style.maxWidth = '160px'")
+        until("[square('h1').getBoundingClientRect().top < square('h8').getBoundingClientRect().top, board().offsetHeight, board().shadowRoot.querySelector('.place').style.getPropertyValue('--board')].join()", "true,160,160px")
+        browser.execute_script("board().turned = false")
+        # (a promotion is chosen at its square, or given up)
+        browser.execute_script("board().fen = '8/P6k/8/8/8/8/8/K7 w - - 0 1'; board().moves = ['a7a8q', 'a7a8n', 'a1b1']; told.length = 0")
+        until("square('a7').getAttribute('aria-label')", "a7, white pawn")
+        browser.execute_script("pointer('a7', 'a8')")
+        promotions = "[...board().shadowRoot.querySelectorAll('.promotion button')].map((it) => it.getAttribute('aria-label')).join()"
+        until(promotions, "white queen,white knight")
+        browser.execute_script("board().shadowRoot.activeElement.dispatchEvent(new KeyboardEvent('keydown', { key: 'Escape', bubbles: true }))")
+        until(f"[{promotions}, told.length].join('|')", "|0")
+        browser.execute_script("pointer('a7', 'a8'); board().shadowRoot.querySelectorAll('.promotion button')[1].click()")
+        until("JSON.stringify(told)", '[["move",{"lan":"a7a8n","from":"a7","to":"a8"}]]')
+        # (attributes are properties, and an element is put elsewhere)
+        self.assertEqual(browser.execute_script("""
+            const it = document.createElement('jatshegi-board');
+            it.setAttribute('moves', 'e2e4 d2d4');
+            document.body.prepend(it);
+            document.body.append(it);
+            it.last = 'e2e4';
+            it.shapes = ['x', 'Gz9', 'Ga1', 'Ga1b', 'Ra1b2'];
+            it.remove();
+            document.body.append(it);
+            const shapes = it.shadowRoot.querySelectorAll('.shapes > *').length;
+            const found = [it.fen, it.moves.join(), it.getAttribute('last'), it.turned, it.shadowRoot.querySelectorAll('.man').length, shapes];
+            it.remove();
+            return found;
+        """), ["", "e2e4,d2d4", "e2e4", False, 32, 2])
+
     def test_in_chromium(self):
         test_web.wants_browser()
         self.assert_same(test_web.new_browser)
         self.assert_hears(test_web.new_browser)
+        self.assert_shows(test_web.new_browser)
 
     def test_in_firefox(self):
         test_web.wants_browser()
@@ -256,6 +349,7 @@ class InBrowsers(unittest.TestCase):
             self.skipTest("firefox-esr is not installed")
         self.assert_same(firefox.Firefox)
         self.assert_hears(firefox.Firefox)
+        self.assert_shows(firefox.Firefox)
 
 
 if __name__ == "__main__":

@@ -13,6 +13,8 @@ PAGES += sorted(it for folder in ("docs", ".github", ".github/ISSUE_TEMPLATE") f
 
 # Words that no source has: commands of the machine, letters of men and moves, a move that is not read, and a name that stands for others.
 ELSEWHERE = {"bash", "cc", "git", "parallel", "pgn-extract", "polyglot", "sed", "stockfish", "qemu-user", "valgrind", "xboard", "errno", "Z0", "After-f", "NAME"}
+# Programs and variables of the machine, on the page for data.
+ELSEWHERE |= {"sqlite3", "zstdcat", "xzcat", "bzcat", "TMPDIR", "PYTHONPATH"}
 # Names of Rust's library and of shakmaty, on the page for Rust.
 ELSEWHERE |= {"no_std", "Sync", "to_string", "into_position", "San", "SanPlus", "Bitboard"}
 # Options of chess.js, and what one of its calls answers, on the page for JavaScript.

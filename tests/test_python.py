@@ -367,7 +367,7 @@ class Games(unittest.TestCase):
         """Random games with variations, comments and annotations, by the program that writes them."""
         with open(f"{runs.TOP}/crates/corpus/stdin", "rb") as file:
             asked = file.read()
-        return subprocess.run([f"{runs.TOP}/crates/corpus/out/corpus"], input=asked, capture_output=True, check=True).stdout
+        return subprocess.run([runs.program("corpus")], input=asked, capture_output=True, check=True).stdout
 
     def program(self, data):
         ran = subprocess.run([runs.BUILT, "pgn"], input=data, capture_output=True)
@@ -1121,6 +1121,8 @@ class ThePackage(unittest.TestCase):
     def test_installs_and_answers(self):
         with tempfile.TemporaryDirectory() as folder:
             shutil.copytree(PACKAGE, f"{folder}/python")
+            # (the released library, if no other is beside the package)
+            os.symlink(f"{runs.TOP}/release", f"{folder}/release")
             words = [sys.executable, "-m", "pip", "install", "--quiet", "--no-deps", "--no-index", "--target", f"{folder}/there", "."]
             ran = subprocess.run(words, cwd=f"{folder}/python", capture_output=True, text=True)
             if "No module named pip" in ran.stderr:

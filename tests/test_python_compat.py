@@ -5,6 +5,7 @@ import importlib
 import io
 import os
 import pickle
+import random
 import re
 import shutil
 import struct
@@ -376,6 +377,96 @@ class Boards(unittest.TestCase):
         self.assertEqual((bare.termination.name, bare.winner, bare.result(), bool(bare.termination)), ("INSUFFICIENT_MATERIAL", None, "1/2-1/2", True))
         self.assertEqual(chess.Board("7k/8/6Q1/8/8/8/8/K7 b - - 0 1").outcome().termination, chess.Termination.STALEMATE)
 
+    def test_claims_after_the_game_is_over(self):
+        """As python-chess has it: a draw can be claimed, though the Laws have ended the game."""
+        five = played("Nf3 Nf6 Ng1 Ng8 " * 4)
+        self.assertEqual((five.can_claim_draw(), five.can_claim_threefold_repetition(), five.can_claim_fifty_moves()), (True, True, False))
+        self.assertEqual((five.outcome(claim_draw=True).termination.name, five.is_game_over(claim_draw=True)), ("FIVEFOLD_REPETITION", True))
+        for fen, fifty in (
+            ("7k/8/8/8/8/8/R7/K7 w - - 150 80", True),
+            ("4k3/8/8/8/8/8/8/4K3 w - - 120 80", True),
+            ("4k3/8/8/8/8/8/8/4K3 w - - 98 80", False),
+            ("7k/5Q2/6K1/8/8/8/8/8 b - - 120 80", False),
+            ("7k/6Q1/6K1/8/8/8/8/8 b - - 120 80", False),
+            # The only move without a capture mates.
+            ("k7/2Q5/8/1K6/8/8/8/8 b - - 99 80", False),
+        ):
+            board = chess.Board(fen)
+            self.assertEqual((board.can_claim_fifty_moves(), board.can_claim_draw(), board.can_claim_threefold_repetition()), (fifty, fifty, False), fen)
+            self.assertEqual((board.fen(), board.move_stack), (fen, []))
+        # With a move: the third time comes up after eight plies.
+        seven = played("Nf3 Nf6 Ng1 Ng8 Nf3 Nf6 Ng1")
+        self.assertEqual((seven.is_repetition(3), seven.can_claim_threefold_repetition(), len(seven.move_stack)), (False, True, 7))
+        self.assertFalse(played("Nf3 Nf6 Ng1 Ng8 Nf3 Nf6").can_claim_draw())
+
+    def test_insufficient_material(self):
+        """The rows of python-chess's documentation and more: by White, by Black."""
+        for men, white, black in (
+            ("rnbqkbnr/pppppppp/8/8/8/8/PPPPPPPP/RNBQKBNR w KQkq -", False, False),
+            ("k1K1B1B1/8/8/8/8/8/8/8 w - -", True, True),
+            ("kbK1B1B1/8/8/8/8/8/8/8 w - -", False, False),
+            ("8/5k2/8/8/8/8/3K4/8 w - -", True, True),
+            ("8/3k4/8/8/2N5/8/3K4/8 b - -", True, True),
+            ("8/4rk2/8/8/8/8/3K4/8 w - -", True, False),
+            ("8/4qk2/8/8/8/8/3K4/8 w - -", True, False),
+            ("8/4bk2/8/8/8/8/3KB3/8 w - -", False, False),
+            ("8/8/3Q4/2bK4/B7/8/1k6/8 w - -", False, False),
+            ("8/5k2/8/8/8/4B3/3K1B2/8 w - -", True, True),
+            ("5K2/8/8/1B6/8/k7/6b1/8 w - -", True, True),
+            ("3b4/8/8/6b1/8/8/R7/K1k5 w - -", False, True),
+            # A knight beside a queen alone can't mate, but beside any other piece it can.
+            ("4k2q/8/8/8/8/8/8/N3K3 w - -", True, False),
+            ("4k2r/8/8/8/8/8/8/N3K3 w - -", False, False),
+            ("4k2n/8/8/8/8/8/8/N3K3 w - -", False, False),
+            ("4k3/8/8/8/8/8/8/NN2K3 w - -", False, True),
+            # Pieces alone are asked, also without kings and in a stalemate.
+            ("8/8/8/8/8/8/8/N7 w - -", True, True),
+            ("7k/5KB1/8/8/8/8/8/8 b - -", True, True),
+        ):
+            board = chess.Board(f"{men} 0 1")
+            self.assertEqual([board.has_insufficient_material(color) for color in (chess.WHITE, chess.BLACK)], [white, black], men)
+            self.assertEqual(board.is_insufficient_material(), white and black, men)
+        self.assertRaises(ValueError, chess.Board().has_insufficient_material, 2)
+
+    def test_insufficient_material_ends_the_game(self):
+        """A position with few pieces is over by its material if and only if the library calls it dead."""
+        draw, seen = random.Random(11), set()
+        for _ in range(1500):
+            squares = draw.sample(range(64), draw.choice((2, 3, 3, 4, 4, 5)))
+            men = {square: letter for square, letter in zip(squares, "Kk" + "".join(draw.choice("NnBbBb") for _ in squares[2:]))}
+            board = chess.Board.empty()
+            board.set_piece_map({square: chess.Piece.from_symbol(letter) for square, letter in men.items()})
+            if board.is_valid() and not board.is_checkmate() and not board.is_stalemate():
+                outcome = board.outcome()
+                self.assertEqual(board.is_insufficient_material(), outcome is not None and outcome.termination == chess.Termination.INSUFFICIENT_MATERIAL, board.fen())
+                seen.add(board.is_insufficient_material())
+        self.assertEqual(seen, {True, False})
+
+    def test_impossible_checks(self):
+        many, impossible, valid = chess.Status.TOO_MANY_CHECKERS, chess.Status.IMPOSSIBLE_CHECK, chess.Status.VALID
+        for fen, wanted in (
+            # After a double step a piece checks whose line that has not opened, or has.
+            ("rnbqk1nr/bb3p1p/1q2r3/2pPp3/3P4/7P/1PP1NpPP/R1BQKBNR w KQkq c6 0 1", impossible),
+            ("8/8/8/1k6/3Pp3/8/8/4KQ2 b - d3 0 1", impossible),
+            ("8/8/8/8/3Pp2k/8/1B6/4K3 b - d3 0 1", valid),
+            ("8/8/8/7k/3Pp3/8/8/3QK3 b - d3 0 1", impossible),
+            ("8/8/8/k7/3Pp3/8/8/4QK2 b - d3 0 1", valid),
+            # The pawn itself, and with another.
+            ("8/8/8/2k5/3Pp3/8/8/4K3 b - d3 0 1", valid),
+            ("8/8/8/2k5/3Pp3/8/8/2R1K3 b - d3 0 1", impossible),
+            # Two in line, two in different directions, three, and two kings.
+            ("4k3/8/8/4R3/8/8/4R3/4K3 b - - 0 1", valid),
+            ("R3k2R/8/8/8/8/8/8/4K3 b - - 0 1", impossible),
+            ("4k3/8/8/1B6/8/8/4R3/4K3 b - - 0 1", valid),
+            ("4k3/8/2N5/1B6/8/8/4R3/4K3 b - - 0 1", valid),
+            ("4k3/8/3N4/7B/8/8/4R3/4K3 b - - 0 1", many | impossible),
+            ("4k3/8/8/8/8/8/8/KK6 w - - 0 1", chess.Status.TOO_MANY_KINGS),
+            ("8/8/8/8/8/8/8/KK6 w - - 0 1", chess.Status.NO_BLACK_KING),
+        ):
+            board = chess.Board(fen)
+            self.assertEqual((board.status(), board.is_valid()), (wanted, not wanted), fen)
+            self.assertEqual((board.fen(en_passant="fen"), board.move_stack), (fen, []))
+
     def test_what_is_refused(self):
         board = chess.Board()
         for call in (
@@ -609,6 +700,66 @@ class Engines(unittest.TestCase):
         self.assertEqual((made.info, made.draw_offered, made.resigned, "move=e2e4" in repr(made)), ({}, False, True, True))
         self.assertRaises(NotImplementedError, chess.engine.SimpleEngine.popen_xboard, ENGINE)
 
+    def test_kinds_of_information(self):
+        with chess.engine.SimpleEngine.popen_uci(ENGINE) as engine:
+            board, limit = chess.Board(), chess.engine.Limit(depth=2)
+            self.assertEqual(engine.play(board, limit).info, {})
+            found = engine.analyse(board, limit, info=chess.engine.INFO_BASIC)
+            self.assertEqual((found["depth"], "score" in found, "pv" in found), (2, False, False))
+            found = engine.play(board, limit, info=chess.engine.INFO_SCORE | chess.engine.INFO_BASIC).info
+            self.assertEqual(("score" in found, "pv" in found), (True, False))
+            found = engine.analyse(board, limit, multipv=1, info=chess.engine.INFO_PV)[0]
+            self.assertEqual(("score" in found, "pv" in found), (False, True))
+            with engine.analysis(board, limit, info=chess.engine.INFO_PV) as analysis:
+                self.assertEqual([it for it in analysis if "score" in it], [])
+                self.assertEqual(("pv" in analysis.info, analysis.wait().move), (True, found["pv"][0]))
+            with engine.analysis(board, limit, info=chess.engine.INFO_NONE) as analysis:
+                self.assertEqual((list(analysis), analysis.wait().move), ([], found["pv"][0]))
+
+    def test_options_of_a_search(self):
+        """The next search puts back an option that a search has set. An option that `configure` has set stays."""
+        program = """
+            import sys
+            for line in sys.stdin:
+                word = line.split()[0]
+                if word == "uci":
+                    print("option name Hash type spin default 16 min 1 max 64", "option name Clear type button", "option name Book type string default <empty>", "uciok", sep="\\n", flush=True)
+                elif word == "isready":
+                    print("readyok", flush=True)
+                elif word == "setoption":
+                    print(line.split(" ", 2)[2], end="", file=sys.stderr, flush=True)
+                elif word == "go":
+                    print("bestmove e2e4", flush=True)
+                elif word == "quit":
+                    break
+            """
+        with tempfile.TemporaryFile("w+") as told:
+            with chess.engine.SimpleEngine.popen_uci([sys.executable, "-c", textwrap.dedent(program)], stderr=told) as engine:
+                board, limit = chess.Board(), chess.engine.Limit(depth=1)
+                for options, wanted in (
+                    ({"hash": 32, "Clear": None}, ["Hash value 32", "Clear"]),
+                    ({"Book": "a b"}, ["Hash value 16", "Book value a b"]),
+                    ({"Book": "c"}, ["Book value c"]),
+                    ({}, ["Book value <empty>"]),
+                    ({}, []),
+                ):
+                    begun = told.seek(0, 2)
+                    engine.play(board, limit, options=options)
+                    engine.ping()
+                    told.seek(begun)
+                    self.assertEqual(told.read().splitlines(), wanted)
+                engine.configure({"Hash": 8})
+                engine.analyse(board, limit, options={"Hash": 9})
+                self.assertRaises(ValueError, engine.play, board, limit, options={"Book": "x", "Hash": 100})
+                self.assertRaises(chess.engine.EngineError, engine.play, board, limit, options={"None": 1})
+                with engine.analysis(board, limit, options={"Hash": 10}) as analysis:
+                    analysis.wait()
+                engine.configure({"Hash": 11})
+                engine.play(board, limit)
+                engine.quit()
+            told.seek(0)
+            self.assertEqual(told.read().splitlines()[6:], ["Hash value 8", "Hash value 9", "Hash value 10", "Hash value 11"])
+
     def test_an_analysis_that_runs(self):
         with chess.engine.SimpleEngine.popen_uci(ENGINE) as engine:
             depths = []
@@ -671,6 +822,10 @@ class Books(unittest.TestCase):
                 self.assertEqual((reader[-1], entries[0] in reader, len(list(reader))), (entries[1], True, 3))
                 self.assertRaises(IndexError, lambda: reader[3])
                 self.assertRaises(IndexError, reader.find, played("e4"))
+                # The entries of a key are as in the file, with the move that is illegal here.
+                self.assertEqual([it.move.uci() for it in reader.find_all(key)], ["e2e4", "e2e5", "g1f3"])
+                self.assertEqual((reader.find(key).move.uci(), reader.get(key + 1), reader.choice(key, minimum_weight=6).weight), ("e2e5", None, 9))
+                self.assertRaises(ValueError, list, reader.find_all(-1))
 
 
 class Pages(unittest.TestCase):

@@ -31,7 +31,7 @@ def corpus():
     """Random games with variations, comments and annotations, by the program that writes them."""
     with open(f"{runs.TOP}/crates/corpus/stdin", "rb") as file:
         asked = file.read()
-    return subprocess.run([f"{runs.TOP}/crates/corpus/out/corpus"], input=asked, capture_output=True, check=True).stdout
+    return subprocess.run([runs.program("corpus")], input=asked, capture_output=True, check=True).stdout
 
 
 class ThePartInC(unittest.TestCase):
@@ -47,7 +47,8 @@ class ThePartInC(unittest.TestCase):
         words = [sys.executable, "-m", "unittest", *(f"test_python.{it}" for it in ("Moves", "TheBoard", "RandomGames", "Games", "NothingIsLost"))]
         ran = subprocess.run(words, cwd=f"{runs.TOP}/tests", env={**os.environ, "JATSHEGI_PLAIN": "1"}, capture_output=True, text=True)
         self.assertEqual(ran.returncode, 0, ran.stderr[-3000:])
-        self.assertNotIn("skipped", ran.stderr)
+        if not runs.RELEASED:
+            self.assertNotIn("skipped", ran.stderr)
 
     def test_it_has_what_ctypes_has(self):
         from jatshegi import _core

@@ -2,9 +2,13 @@
 import glob
 import importlib.machinery
 import importlib.util
+import os
 import pathlib
+import platform
 import re
 import subprocess
+import sys
+import textwrap
 import unittest
 
 import runs
@@ -21,6 +25,27 @@ class Tools(unittest.TestCase):
 
     def test_each_part_of_a_definition_has_its_example(self):
         self.assertIn(", 0 missed", self.ends_well("tools/parts"))
+
+    def test_tests_run_over_the_release_without_the_kit(self):
+        """With JATSHEGI_RELEASED=1 a file of tests runs by itself, no tool is started, and what release/ lacks is skipped."""
+        folders = [it for it in os.get_exec_path() if not os.path.exists(f"{it}/rt")]
+        environment = {name: value for name, value in os.environ.items() if not name.startswith("JATSHEGI_")}
+        environment.update(JATSHEGI_RELEASED="1", PATH=os.pathsep.join(folders))
+        ran = subprocess.run([sys.executable, "tests/test_python.py", "Moves"], cwd=runs.TOP, env=environment, capture_output=True, text=True)
+        self.assertRegex(ran.stderr, r"Ran [1-9]\d* tests? in .*\n\nOK", ran.stderr)
+        asked = """
+            import unittest, runs
+            runs.make("libraries")
+            print(runs.BUILT)
+            for call in (lambda: runs.make("prove", "chess"), lambda: runs.program("corpus")):
+                try:
+                    call()
+                except unittest.SkipTest as why:
+                    print(why)
+            """
+        ran = subprocess.run([sys.executable, "-c", textwrap.dedent(asked)], cwd=f"{runs.TOP}/tests", env=environment, capture_output=True, text=True)
+        built = f"{runs.TOP}/release/{platform.machine()}-linux/bin/chess"
+        self.assertEqual((ran.stdout, ran.stderr), (f"{built}\nrelease/ has nothing in the place of tools/prove chess\nrelease/ has no program corpus\n", ""))
 
     def test_no_text_of_the_sources_has_a_line_that_looks_like_a_comment(self):
         """tools/prove leaves lines of comments out of what a crate is made from, and knows no texts."""

@@ -203,6 +203,18 @@ class Page:
     def drag(self, a, b):
         self.drag_elements(self.square(a), self.square(b))
 
+    def draw(self, a, b, **keys):
+        """Draws an arrow from one square to another, or a circle on one, as by the right button of the mouse, with keys held."""
+        self.script("""
+            const [a, b, keys] = arguments;
+            const square = (name) => document.querySelector(`#board [data-square=${name}]`);
+            square(a).scrollIntoView({ block: 'center' });
+            for (const [kind, name] of [['pointerdown', a], ['pointermove', b], ['pointerup', b]]) {
+                const { x, y, width, height } = square(name).getBoundingClientRect();
+                square(name).dispatchEvent(new PointerEvent(kind, { button: kind === 'pointermove' ? -1 : 2, clientX: x + width / 2, clientY: y + height / 2, bubbles: true, cancelable: true, ...keys }));
+            }
+        """, a, b, keys)
+
     def drag_elements(self, a, b):
         if hasattr(self.browser, "drag"):
             self.browser.drag(a, b)
@@ -343,6 +355,10 @@ class InTheBrowser(unittest.TestCase):
         page.closes()
         page.paste("1. e4 e5 2. Ke3 *")
         page.until_told("a word that names no legal move, at line 1, column 13, move 2 of White: “Ke3”")
+        # (it is shown repaired, beside the game)
+        page.until_moves("1. e4 e5 cut: Ke3")
+        page.script("document.getElementById('undo').click()")
+        page.until_moves("1. e4")
         for text in ("   ", "42", "1. ", "1-0", '[White "?"]\n\n*'):
             page.script("document.getElementById('told').textContent = ''")
             page.paste(text)
@@ -641,8 +657,8 @@ class InTheBrowser(unittest.TestCase):
         page.script(give, "paste", "1. c4 e5 *")
         page.until_moves("1. c4 e5")
         page.script(give, "file", "1. e4 e4 *")
-        page.until_told("names no legal move")
-        page.until_moves("1. c4 e5")
+        page.until_told("This game was repaired (a word that names no legal move")
+        page.until_moves("1. e4 cut: e4")
 
     def test_text_stands_out_from_what_is_behind_it(self):
         """WCAG 2.2, 1.4.3: a contrast of 4.5 at least, 3 for large text."""
@@ -1289,7 +1305,7 @@ class TheFiles(unittest.TestCase):
     def test_the_page_is_small(self):
         with open(f"{WEB}/offline.js", encoding="utf-8") as file:
             names = re.findall(r"^  '(.+)': 'sha256", file.read(), re.M)
-        self.assertLess(sum(os.path.getsize(f"{WEB}/{name}") for name in names if not name.endswith(".wasm")), 250_000)
+        self.assertLess(sum(os.path.getsize(f"{WEB}/{name}") for name in names if not name.endswith((".wasm", ".png"))), 260_000)
 
 
 def pictures():

@@ -53,24 +53,24 @@ LISTED = [
     "Line 8 can’t be read: A FEN has four or six fields. “4k3/8/8/8/8/8/8/R3K3 w Q - 5”",
 ]
 
-# Texts that hold no game, and where it is said to be.
+# Texts that can't be read, where the page says the fault to be, and what it shows of them.
 NO_MOVE = "a word that names no legal move"
 FAULTS = [
-    ("1. e4 e5 2. Ke3 *", f"{NO_MOVE}, at line 1, column 13, move 2 of White: “Ke3”"),
-    ('[White "Ä"]\n\n1. e4 {üü\nü} e5 2. Nf3\n2... Nc3 *', f"{NO_MOVE}, at line 5, column 6, move 2 of Black: “Nc3”"),
-    ("1. e4 e5 (1... c5 2. Nf3 d6 (2... Nc6) 3. d5 *", f"{NO_MOVE}, at line 1, column 43, move 3 of White: “d5”"),
-    ("1. e4 e5 2. Nf3 (2. Ke3) *", f"{NO_MOVE}, at line 1, column 21, move 2 of White: “Ke3”"),
-    ("Nonsense", f"{NO_MOVE}, at line 1, column 1, move 1 of White: “Nonsense”"),
-    ('[FEN "rubbish"]\n\n1. e4 *', "a FEN that spells no position, at line 1, column"),
-    ("[White x]\n1. e4 *", "a malformed tag, at line 1, column"),
-    ("1. e4 e5 2. Nf3 & *", "a byte that begins no token, at line 1, column 17, move 2 of Black: “&”"),
+    ("1. e4 e5 2. Ke3 *", f"{NO_MOVE}, at line 1, column 13, move 2 of White: “Ke3”", "1. e4 e5 cut: Ke3"),
+    ('[White "Ä"]\n\n1. e4 {üü\nü} e5 2. Nf3\n2... Nc3 *', f"{NO_MOVE}, at line 5, column 6, move 2 of Black: “Nc3”", "1. e4 üü ü 1... e5 2. Nf3 cut: Nc3"),
+    ("1. e4 e5 (1... c5 2. Nf3 d6 (2... Nc6) 3. d5 *", f"{NO_MOVE}, at line 1, column 43, move 3 of White: “d5”", "1. e4 e5 1... c5 2. Nf3 d6 cut: d5 2... Nc6"),
+    ("1. e4 e5 2. Nf3 (2. Ke3) *", f"{NO_MOVE}, at line 1, column 21, move 2 of White: “Ke3”", "1. e4 e5 2. Nf3 cut: Ke3"),
+    ("Nonsense", f"{NO_MOVE}, at line 1, column 1, move 1 of White: “Nonsense”", ""),
+    ('[FEN "rubbish"]\n\n1. e4 *', "a FEN that spells no position, at line 1, column", ""),
+    ("[White x]\n1. e4 *", "a malformed tag, at line 1, column", "1. e4"),
+    ("1. e4 e5 2. Nf3 & *", "a byte that begins no token, at line 1, column 17, move 2 of Black: “&”", "1. e4 e5 2. Nf3"),
     # brackets that open nothing, variations that have just been opened, and a move that both sides may write
-    ("% ( {\n1. e4 {a (} e5 ; ((\n( 1 . ; {\n& *", "a byte that begins no token, at line 4, column 1, move 1 of Black: “&”"),
-    ("1. e4 e5 (1... c5 {THE PLACE OF THE FAULT} 2. Nf3 (2. c3 (& *", "a byte that begins no token, at line 1, column 59, move 2 of White: “&”"),
-    ("1. e4 e5 2. Nf3 Nf6 3. Bc4 Bc5 (3... d6) 4. O-O (4. O-O x *", f"{NO_MOVE}, at line 1, column 57, move 4 of Black: “x”"),
-    ("1. e4 ({x", "the text ends too soon, at line 1, column 10, move 1 of White"),
-    ("1. e4 e5 {no end", "the text ends too soon, at line 1, column"),
-    ('[FEN "4k3/8/8/8/8/8/8/R3K3 b - - 0 40"]\n\n40... Kd8 41. Ra8+ Kd9 *', f"{NO_MOVE}, at line 3, column 20, move 41 of Black: “Kd9”"),
+    ("% ( {\n1. e4 {a (} e5 ; ((\n( 1 . ; {\n& *", "a byte that begins no token, at line 4, column 1, move 1 of Black: “&”", "1. e4 a ( 1... e5 (( {"),
+    ("1. e4 e5 (1... c5 {THE PLACE OF THE FAULT} 2. Nf3 (2. c3 (& *", "a byte that begins no token, at line 1, column 59, move 2 of White: “&”", "1. e4 e5 1... c5 THE PLACE OF THE FAULT 2. Nf3 2. c3"),
+    ("1. e4 e5 2. Nf3 Nf6 3. Bc4 Bc5 (3... d6) 4. O-O (4. O-O x *", f"{NO_MOVE}, at line 1, column 57, move 4 of Black: “x”", "1. e4 e5 2. Nf3 Nf6 3. Bc4 Bc5 3... d6 4. O-O 4. O-O cut: x"),
+    ("1. e4 ({x", "the text ends too soon, at line 1, column 10, move 1 of White", "1. e4 x"),
+    ("1. e4 e5 {no end", "the text ends too soon, at line 1, column", "1. e4 e5 no end"),
+    ('[FEN "4k3/8/8/8/8/8/8/R3K3 b - - 0 40"]\n\n40... Kd8 41. Ra8+ Kd9 *', f"{NO_MOVE}, at line 3, column 20, move 41 of Black: “Kd9”", "40... Kd8 41. Ra8+ cut: Kd9"),
 ]
 
 # What the browser keeps of the page: names of versions, the files of each, whether one serves this page and whether a newer one waits.
@@ -273,10 +273,15 @@ class Boards:
 
     def test_a_fault_has_its_line_its_column_and_its_move(self):
         page = self.page
-        for text, said in FAULTS:
+        for text, said, moves in FAULTS:
+            page.script("document.getElementById('new').click()")
+            page.until_moves("")
             page.paste(text)
             page.until_told(said)
-            self.assertEqual(page.moves, "")
+            self.assertEqual(page.moves, moves)
+            self.assertTrue(page.text("told").startswith("This game was repaired (" if moves else "No game can be read: "))
+        page.script("document.getElementById('new').click()")
+        page.until_moves("")
         games = "1. e4 *\n\n[White \"Bad\"]\n\n1. e4 (1. d4 d5\n2. Kd3) *\n\n[White \"Three\"]\n\n1. c4 *\n\n[White \"Bad\"]\n\n1. c4 c4 *\n"
         page.paste(games)
         page.until(lambda: page.text("howmany") == "2 games, and 2 that can’t be read", "the games are listed")
@@ -285,6 +290,32 @@ class Boards:
         # (a board beside was asked where they are: what it begins has none of their names)
         page.click("new")
         page.until(lambda: not page.moves and page.script("return window.jatshegi.game.state.tags.White") == "?", "a game without names is begun")
+
+    def test_a_game_that_can_not_be_read_is_opened_repaired(self):
+        page = self.page
+        page.play("d4")
+        had = self.own()
+        page.paste('1. e4 *\n\n[White "Bad"]\n\n1. e2-e4 c7-c5 2. OO Nc6 *\n\n[White "Three"]\n\n1. c4 *\n\nNonsense *')
+        page.until_moves("1. e4")
+        page.until(lambda: len(self.rows()) == 4, "the games are listed")
+        row = "#games li:nth-child(2) button"
+        page.found(row).click()
+        page.until_moves("1. e4 c5 cut: O-O Nc6")
+        page.until_told("This game was repaired (a word that names no legal move, at line 5, column 4, move 1 of White: “e2-e4”): a hyphen in a move (2 times); a castling; a move that isn’t legal, from which")
+        self.assertEqual(page.script("return [jatshegi.game.state.tags.White, document.querySelector(arguments[0]).getAttribute('aria-current'), document.getElementById('saveback').hidden]", row), ["Bad", "true", True])
+        page.until(lambda: self.own() == had + 2, "it is a game beside the others")
+        # (nothing of another can be)
+        page.found("#games li:nth-child(4) button").click()
+        page.until_told("Nothing of it can be read")
+        self.assertEqual(page.moves, "1. e4 c5 cut: O-O Nc6")
+        page.script("document.getElementById('undo').click()")
+        page.until_moves("1. e4")
+        page.script("document.getElementById('undo').click()")
+        page.until_moves("1. d4")
+        # (what is done meanwhile stays on the board)
+        page.script("document.getElementById('pgn').value = '1. e4 e5 2. Ke3 *'; document.getElementById('read').click(); document.getElementById('san').value = 'd5'; document.getElementById('sanform').requestSubmit()")
+        page.until(lambda: len(self.rows()) == 1, "it is listed")
+        page.until_moves("1. d4 d5")
 
     # ---- The board editor.
 
@@ -440,8 +471,7 @@ class Boards:
             self.again(page)
             page.until(lambda: self.newer_waits() or self.heading() == "Newer", "a new version waits")
             self.again(page)
-            page.until(lambda: self.heading() == "Newer", "the new version is there")
-            self.assertEqual(page.moves, "1. e4 e5")
+            page.until(lambda: self.heading() == "Newer" and page.moves == "1. e4 e5", "the new version is there, with the game")
             newer = self.offline()[0]
             self.assertTrue(len(newer) == 1 and newer != names, newer)
             # one of which a file is not as its list says is not taken

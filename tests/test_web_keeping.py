@@ -89,6 +89,38 @@ def as_typed(rng, board, move):
     return rng.choice(ways)
 
 
+COMMAND = r"\[%[A-Za-z]\w*\s+[^\]]*\]"
+
+
+def words_of(comment):
+    """A comment without its commands."""
+    return " ".join(re.sub(COMMAND, " ", comment).split())
+
+
+def with_words(commands, words):
+    return " ".join([*commands, *([words] if words else [])])
+
+
+def toggled(comment, item):
+    """The commands of a comment, with an arrow or a circle put in or taken out."""
+    name, is_there, commands = "cal" if len(item) > 3 else "csl", False, []
+    for text in re.findall(COMMAND, comment):
+        if not text.startswith(f"[%{name} "):
+            commands.append(text)
+            continue
+        items = text[6:-1].replace(" ", "").split(",")
+        is_there = is_there or item in items
+        left = [it for it in items if it[1:] != item[1:]]
+        commands += [text] if left == items else [f"[%{name} {','.join(left)}]"] if left else []
+    if is_there:
+        return commands
+    for at in reversed(range(len(commands))):
+        if commands[at].startswith(f"[%{name} "):
+            commands[at] = f"{commands[at][:-1]},{item}]"
+            return commands
+    return [*commands, f"[%{name} {item}]"]
+
+
 class Model:
     """Beside the page: the board of the library, the tags and the result, and the states so far as texts."""
 
@@ -156,6 +188,20 @@ class Model:
             self.board.line(f"nag {it}")
         self.note()
 
+    def comment(self):
+        """The comment at the cursor, without one that is being typed."""
+        node = self.jatshegi.pgn.read_game(self.states[self.at][0].encode()).root
+        path = self.board.line("path")
+        for i in [] if path == "-" else path.split("."):
+            node = node.children[int(i)]
+        return node.comment
+
+    def draw(self, item):
+        """An arrow or a circle more, in the place of one of another colour, or one less."""
+        if self.settle():
+            self.board.line(f"comment {with_words(toggled(self.comment(), item), words_of(self.comment()))}")
+            self.note()
+
     def can_return(self):
         return bool(self.left) and self.left[-1][1:] == (self, self.at)
 
@@ -184,6 +230,7 @@ GAMES = [
     '[White "One"]\n[Black "Two"]\n\n{r} 1. e4 {a} (1. e4 {b} e5) (1. d4 $1 d5 (1... f5 {y})) 1... c5 2. Nf3 1/2-1/2',
     '[Event "Ends"]\n[FEN "7k/P7/8/8/8/8/8/K7 w - - 4 60"]\n\n60. a8=Q+ {so it goes} Kh7 (60... Kg7 $14 $5) 1-0',
     "1. f3 e5 2. g4 Qh4# 0-1",
+    '[White "Clocks"]\n\n1. e4 {[%eval 0.18] [%clk 0:05:00] best by test [%cal Ge2e4,Rd1h5]} e5 {[%csl Yd5][%clk 0:04:59.3]} (1... c5 {[%cal Gc5d4]}) 2. Nf3 {[%odd [%csl Ge4] a] [%x] b} *',
     '[White "\u00c5 \\"b\\" \\\\ c"]\n[Date "2024.??.??"]\n[WhiteElo "?"]\n[Custom ""]\n\n1. c4 {x} *',
 ]
 
@@ -197,12 +244,18 @@ class Keeping(Browsing):
         """One random thing on the page and beside it: what was done, and the model of the game that is then on the board."""
         page, keys = self.page, {"ctrl": "\ue009", "shift": "\ue008"}
         what = rng.choice(["play"] * 6 + ["type"] * 2 + ["undo", "undo", "ctrl-z", "redo", "ctrl-y", "ctrl-shift-z", "reload", "reload"]
-                          + ["another", "open", "open", "edit", "edit", "listed", "address", "no address", "illegal", "enter", "escape", "back", "forward", "start", "end", "nag", "delete", "promote", "tag", "result", "new", "fen", "paste"])
+                          + ["draw", "draw", "another", "open", "open", "edit", "edit", "listed", "address", "no address", "illegal", "enter", "escape", "back", "forward", "start", "end", "nag", "delete", "promote", "tag", "result", "new", "fen", "paste"])
         board = model.board
         if what == "type":
             model.draft = rng.choice(["good", "so-so", "sch\u00f6n (it) is; $5 %", "a } brace", "word " * 12 + "end"]) + f" {rng.randrange(1000)}"
             page.type("comment", model.draft, then="")
+            model.draft = with_words(re.findall(COMMAND, model.comment()), model.draft)
             model.is_kept = True
+        elif what == "draw":
+            first, second = rng.choice([("e4", "e4"), ("d5", "d5"), ("e2", "e4"), ("c5", "d4")])
+            is_red = rng.randrange(3) == 0
+            page.draw(first, second, shiftKey=is_red)
+            model.draw(f"{'R' if is_red else 'G'}{first}{'' if first == second else second}")
         elif what == "no address":
             page.script("location.hash = arguments[0]", f"fen=8/8/8/8/8/8/8/8_w_-_-_0_{rng.randrange(1, 9999)}")
             page.until_told("The address names no position")
@@ -654,7 +707,7 @@ class Keeping(Browsing):
         self.assertEqual(self.text(), first)
         page.until(lambda: page.text("howmany").startswith("3 games"), "the games are listed again")
         for number in (1, 2, 1):
-            page.script("document.querySelectorAll('#games button')[arguments[0]].click()", number)
+            page.script("document.querySelectorAll('#games li:not(.bad) button')[arguments[0]].click()", number)
             page.until(lambda: ("c4" if number == 2 else "d4") in page.moves, "it is on the board")
         page.play("c4")
         page.script("document.getElementById('tagBlack').value = 'Black'; document.getElementById('tagBlack').dispatchEvent(new Event('change'))")

@@ -43,6 +43,11 @@ FAINT = """
         const found = contrast(over(colour(style.color), ground(it)), ground(it));
         if (found < (large ? 3 : 4.5)) low.push(named(it, found));
       }
+      if (it.matches('input[placeholder], textarea[placeholder]')) {
+        const { color, opacity } = getComputedStyle(it, '::placeholder');
+        const found = contrast(over([...colour(color).slice(0, 3), Number(opacity)], ground(it)), ground(it));
+        if (found < 4.5) low.push(`placeholder of ${named(it, found)}`);
+      }
       if (it.matches('.icon')) {
         const found = contrast(colour(style.stroke), ground(it));
         if (found < 3) low.push(named(it, found));
@@ -254,7 +259,7 @@ class Looking:
             page.click("analyse")
             page.until(lambda: page.script("return document.querySelectorAll('#lines li').length"), "a line is there")
             self.assertEqual("\n".join(page.script(FAINT)), "", theme)
-            for box in ("menu", "gamesbox", "pastebox", "fenbox", "tagbox", "settings"):
+            for box in ("menu", "gamesbox", "pastebox", "fenbox", "tagbox", "settings", "keysbox"):
                 page.script("document.querySelector('dialog[open]')?.close(); document.querySelector(`[data-opens=${arguments[0]}]`).click()", box)
                 self.assertEqual("\n".join(page.script(FAINT)), "", (theme, box))
             page.closes()
@@ -266,7 +271,8 @@ class Looking:
     def test_no_man_covers_a_coordinate(self):
         page = self.page
         covered = """
-            return [...document.querySelectorAll('.at')].flatMap((at) => {
+            const done = arguments[0];
+            import('./jatshegi/src/men.js').then(({ man }) => done([...document.querySelectorAll('.at')].flatMap((at) => {
               const square = at.parentElement;
               const text = document.createRange();
               text.selectNodeContents(at);
@@ -274,7 +280,7 @@ class Looking:
               const size = square.getBoundingClientRect();
               // (each corner of the text, in the units of the men's pictures)
               const points = [[a.left, a.top + a.height * .15], [a.right, a.top + a.height * .15], [a.left, a.bottom - a.height * .15], [a.right, a.bottom - a.height * .15]];
-              return ['p', 'r', 'n', 'b', 'q', 'k'].filter((letter) => [...document.getElementById(letter).children].some((shape) => {
+              return ['p', 'r', 'n', 'b', 'q', 'k'].filter((letter) => [...man(letter).children].some((shape) => {
                 if (shape.classList.contains('mark')) return false;
                 const picture = document.createElementNS('http://www.w3.org/2000/svg', 'svg');
                 picture.setAttribute('viewBox', '0 0 40 40');
@@ -287,11 +293,11 @@ class Looking:
                 picture.remove();
                 return is;
               })).map((letter) => `${square.dataset.square} ${at.textContent} ${letter} ${Math.round(size.width)}`);
-            });
+            }))).catch((error) => done(String(error)));
         """
         for name in ("phone", "desk"):
             self.resize(*SIZES[name])
-            self.assertEqual(page.script(covered), [], name)
+            self.assertEqual(self.browser.execute_async_script(covered), [], name)
 
     def test_the_board_editor_is_in_the_window(self):
         page = self.page

@@ -1,6 +1,8 @@
 // The engine on the page: what it says, how it is stopped, and its replies in a game against it.
 import { ask, module } from './ask.js';
+import { evaluationHere } from './draw.js';
 import { game, lines } from './game.js';
+import { share } from './graph.js';
 
 const by = (id) => document.getElementById(id);
 
@@ -8,17 +10,22 @@ const by = (id) => document.getElementById(id);
 // milliseconds is put away, and another one, which was begun before, takes its place.
 const PATIENCE = 25;
 
-const engine = { worker: null, spare: null, searching: false, stopping: false, side: 'w', fen: '', wanted: null, done: null, reply: null, patience: 0, last: '', named: null, isHurried: false };
+const engine = { worker: null, spare: null, searching: false, stopping: false, side: 'w', fen: '', wanted: null, done: null, reply: null, patience: 0, last: '', said: undefined, named: null, isHurried: false };
 
 // ---- What is shown.
 
 const drawBar = (value, text) => {
-  const share = 50 + 50 * (2 / (1 + Math.exp(-value / 300)) - 1);
-  by('barwhite').style.height = `${Math.max(2, Math.min(98, share))}%`;
+  by('barwhite').style.height = `${share(value)}%`;
   by('barvalue').textContent = text.replace(/^[+\u2212]/, '').slice(0, 4);
   by('barvalue').className = value < 0 ? 'black' : '';
   by('value').textContent = text;
+  by('bar').classList.remove('off');
   by('bar').setAttribute('aria-label', `Evaluation: ${text} for White`);
+};
+
+const hideBar = () => {
+  by('bar').classList.add('off');
+  by('value').textContent = '';
 };
 
 const signed = (value, digits) => `${value > 0 ? '+' : value < 0 ? '\u2212' : ''}${Math.abs(value / 100).toFixed(digits)}`;
@@ -32,8 +39,15 @@ export const points = { at() {} };
 
 const clear = () => {
   by('lines').replaceChildren();
+  by('depths').hidden = true;
   engine.named = null;
   points.at('');
+};
+
+/** Shows the earlier depths below the last, or folds them away. */
+export const toggleDepths = () => {
+  const isShown = by('lines').classList.toggle('all');
+  by('depths').setAttribute('aria-expanded', String(isShown));
 };
 
 // A line of the engine: its value for White, the move, and the depth. A click plays the move.
@@ -51,6 +65,7 @@ const drawLine = ({ depth, isMate, value, move }) => {
   row.dataset.depth = depth;
   row.append(button);
   by('lines').prepend(row);
+  by('depths').hidden = by('lines').children.length < 2;
   ask('words', { fen, moves: [move] }).then(([found]) => {
     san.textContent = found;
   }, () => {});
@@ -144,7 +159,7 @@ const heard = (said) => {
     drawLine(engine.named);
     if (analyses()) points.at(info[4]);
     thinking(`Depth ${info[1]} of ${engine.depth}`);
-    drawBar(engine.named.isMate ? Math.sign(value) * 2000 : value, engine.named.isMate ? `#${Math.abs(value)}` : brief(value));
+    if (analyses()) drawBar(engine.named.isMate ? Math.sign(value) * 2000 : value, engine.named.isMate ? `#${Math.abs(value)}` : brief(value));
     if (engine.isHurried) stopEngine(true);
   }
   const best = /^bestmove (\S+)/.exec(said);
@@ -187,25 +202,32 @@ export const positionChanged = (isMoved = true) => {
     engine.wanted = null;
     stopEngine();
     points.at('');
+    drawEvaluation();
     if (!engine.searching) thinking(analyses() ? 'The game is over' : 'Engine off');
   }
 };
 
-// What the evaluation is where the game is over, and else the board's own.
+// Without the engine the bar shows how the game ended, or what the comment evaluates the position to.
 const drawEvaluation = () => {
-  const { fen, status, value } = game.state;
-  if (status === 'play') drawBar(value, brief(value));
+  const { fen, status } = game.state;
+  const said = evaluationHere();
+  if (status === 'play' && said) drawBar(100 * said.value, said.text);
+  else if (status === 'play') {
+    // (the engine says it anew at once)
+    if (!analyses()) hideBar();
+  }
   else if (status === 'mate') drawBar(fen.split(' ')[1] === 'b' ? 2000 : -2000, fen.split(' ')[1] === 'b' ? '1\u20130' : '0\u20131');
   else drawBar(0, '\u00bd');
 };
 
 /** The position is drawn: where it is another, its evaluation is shown, and the engine gets it. */
 export const positionDrawn = (isMoved) => {
+  const said = evaluationHere()?.text;
   if (engine.last !== game.state.fen) {
-    engine.last = game.state.fen;
     drawEvaluation();
     positionChanged(isMoved);
-  }
+  } else if (engine.said !== said && !analyses()) drawEvaluation();
+  Object.assign(engine, { last: game.state.fen, said });
   reply();
 };
 

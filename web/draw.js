@@ -1,5 +1,7 @@
 // What the page shows of the game: the status with its articles, the moves, the comment, and the names.
-import { game, page, retag, tag } from './game.js';
+import { clock, evaluation, shapes, split } from './commands.js';
+import { game, lines, page, retag, tag } from './game.js';
+import { Graph } from './graph.js';
 import { shown } from './jatshegi/src/bytes.js';
 import { canRedo, canUndo } from './mine.js';
 import { nodesOn, pathOf, rows, typed } from './pgn.js';
@@ -40,6 +42,17 @@ export const drawStatus = () => {
 
 const POINTS = { '1-0': ['1', '0'], '0-1': ['0', '1'], '1/2-1/2': ['\u00bd', '\u00bd'] };
 
+// What the clock of a side shows at the cursor: that of its last move on the way there which says it.
+const clockOf = (side) => {
+  const [root] = rowsNow();
+  const line = root ? nodesOn(root, game.state.path).slice(1) : [];
+  for (const row of line.reverse()) {
+    const found = isWhites(row) === (side === 'w') ? clock(partsOf(row).commands) : { text: '' };
+    if (found.text) return found;
+  }
+  return { text: '', name: '' };
+};
+
 const drawPlayer = (place, side) => {
   const name = side === 'w' ? 'White' : 'Black';
   const title = tag(`${name}Title`);
@@ -47,7 +60,13 @@ const drawPlayer = (place, side) => {
   place.classList.toggle('turn', game.state.fen.split(' ')[1] === side && game.state.status === 'play');
   place.setAttribute('role', 'group');
   place.setAttribute('aria-label', name);
-  place.replaceChildren(element('span', '', `disc ${side}`), element('span', `${title ? `${title} ` : ''}${tag(name) || name}`, 'name'), element('span', tag(`${name}Elo`), 'rating'), element('span', points, 'result'));
+  const { text, name: kind } = clockOf(side);
+  const shows = element('span', '', 'clock');
+  if (text) shows.append(element('span', kind === 'clk' ? 'Clock ' : 'Time for the move ', 'away'), text);
+  shows.title = kind === 'emt' ? 'Time for the move' : '';
+  place.replaceChildren(
+    element('span', '', `disc ${side}`), element('span', `${title ? `${title} ` : ''}${tag(name) || name}`, 'name'), element('span', tag(`${name}Elo`), 'rating'), shows, element('span', points, 'result'),
+  );
 };
 
 export const drawPlayers = (isTurned) => {
@@ -73,14 +92,25 @@ const moveButton = (text) => {
   return button;
 };
 
+// The commands of a row's comment, and its words.
+const partsOf = (row) => (row.parts ??= split(shown(row.comment)));
+
+// A move's button, with what its comment evaluates the position to.
+const buttonFor = (row, text) => {
+  const button = moveButton(text);
+  const found = evaluation(partsOf(row).commands);
+  if (found) button.append(' ', element('small', found.text));
+  return button;
+};
+
 // A move's number, which Black's needs only where something is between it and White's.
-const numberOf = (row, before) => (row.number.endsWith('...') && before?.kind === 'move' && !before.comment ? '' : row.number);
+const numberOf = (row, before) => (row.number.endsWith('...') && before?.kind === 'move' && !partsOf(before).words ? '' : row.number);
 
 const isWhites = (row) => row.number !== '' && !row.number.endsWith('...');
 
 // A move of the main line in its column, with its number.
 const inColumns = ({ row, number, text }) => {
-  const button = moveButton(text);
+  const button = buttonFor(row, text);
   button.classList.add(isWhites(row) ? 'white' : 'black');
   return [...(number ? [element('span', number, 'number'), ' '] : []), button, ' '];
 };
@@ -126,8 +156,9 @@ const drawPiece = ({ shows }) => {
       open.push(inner);
     } else if (row.kind === 'close') open.pop();
     else {
-      if (row.kind === 'move') to.append(...(open.length === 1 ? inColumns(it) : [moveButton(`${number ? `${number} ` : ''}${text}`), ' ']));
-      if (row.comment) to.append(element('span', ` ${shown(row.comment)} `, 'remark'));
+      if (row.kind === 'move') to.append(...(open.length === 1 ? inColumns(it) : [buttonFor(row, `${number ? `${number} ` : ''}${text}`), ' ']));
+      const { words } = partsOf(row);
+      if (words) to.append(element('span', ` ${words} `, 'remark'));
     }
   }
   return top;
@@ -160,16 +191,22 @@ export const pathAt = (target) => {
 // The comment of the node at the cursor, as it was set.
 let said = '';
 
-/** The comment of the node at the cursor, or what is typed in its place. */
+/** The words of the comment of the node at the cursor, or what is typed in their place. */
 export const showComment = () => {
-  const text = game.draft?.text ?? said;
+  const text = game.draft ? game.draft.box ?? split(game.draft.text).words : split(said).words;
   if (by('comment').value !== text) by('comment').value = text;
 };
 export const saidHere = () => said;
+/** The arrows and circles of that comment. */
+export const shapesHere = () => shapes(split(said).commands);
+/** What it evaluates the position to, `{text, value}`; null where it doesn't. */
+export const evaluationHere = () => evaluation(split(said).commands);
 
 // The marks of the move at the cursor.
 let marks = [];
 export const marksHere = () => marks;
+
+const graph = new Graph(by('graph'), (row) => lines(`goto ${pathOf(row).join('.')}`));
 
 let drawn = null;
 let marked = null;
@@ -221,8 +258,12 @@ export const drawMoves = () => {
   const box = by('moves');
   const row = all.length ? nodesOn(all[0], game.state.path).at(-1) : undefined;
   const had = box.contains(document.activeElement);
-  if (drawn !== all) drawTree(all);
+  if (drawn !== all) {
+    drawTree(all);
+    graph.show(all[0], (it) => partsOf(it).commands);
+  }
   drawn = all;
+  graph.go(row);
   if (had && !box.contains(document.activeElement)) box.querySelector('.move')?.focus({ preventScroll: true });
   markCurrent(row);
   said = row ? shown(row.comment) : '';

@@ -1,8 +1,8 @@
 // The board editor: men are put, moved and taken, by drag, by taps and by keys, and the fields of a FEN beside them. Whether it is a position, the module says.
 import { ask } from './ask.js';
-import { man, named } from './board.js';
-import { FILES, placed, placement } from './fen.js';
 import { game } from './game.js';
+import { man, named } from './jatshegi/src/men.js';
+import { FILES, placed, placement } from './jatshegi/src/placement.js';
 import { typed } from './pgn.js';
 import { refusal } from './words.js';
 

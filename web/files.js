@@ -5,10 +5,12 @@ import { doing, exported, game, inTurn, isSettled, page, taken } from './game.js
 import { another, idHere, isAsLoaded } from './mine.js';
 import { fromBytes, shown, toBytes } from './jatshegi/src/bytes.js';
 import { hasStore, newFileId, readFile, writeFile } from './store.js';
-import { faultWords, refusal } from './words.js';
+import { faultWords, refusal, repaired } from './words.js';
 
 const by = (id) => document.getElementById(id);
 const MOST_SHOWN = 500;
+// This number of bytes decides what a game is repaired to.
+const MOST_REPAIRED = 1_179_648;
 
 // The games, or positions, that were read last: the bytes, what was found in them, and the file, where they are of one: `{id, name, handle}`.
 // `opened` has the numbers of those that were opened, by the games that they are then.
@@ -48,6 +50,26 @@ const openListed = (it) => doing(async () => {
   noteOpened(collection, it);
 });
 
+// A game that can't be read, as far as the module saves it; null where no move is left.
+const repairedOf = async ({ bytes }, it) => {
+  const saved = await ask('salvage', { bytes: bytes.slice(it.at, it.at + MOST_REPAIRED) });
+  return saved?.hasMoves ? saved : null;
+};
+
+// It comes on the board, and its repairs are said. It is a game of its own, which has no place in the file. Only in turn.
+const takeRepaired = async (saved, it, isBeside) => {
+  if (!await isSettled() || !await taken(saved.bytes, { isBeside })) return false;
+  page.told(`This game was repaired (${faultWords(it.fault, it.where)}): ${repaired(saved.repairs)}.`);
+  return true;
+};
+
+const openRepaired = (it) => doing(async () => {
+  const of = collection;
+  const saved = await repairedOf(of, it);
+  if (!saved) page.told(`Nothing of it can be read: ${faultWords(it.fault, it.where)}.`);
+  else if (await takeRepaired(saved, it, !isAsLoaded())) noteOpened(of, it);
+});
+
 const openPosition = async (it) => {
   const of = collection;
   if (await another(`set ${it.fen}`, calledOf(it.said))) noteOpened(of, it);
@@ -73,15 +95,17 @@ export const markOpened = () => {
 const entry = (it) => {
   const row = document.createElement('li');
   row.dataset.number = it.number;
-  if (it.isBad) {
-    row.className = 'bad';
+  if (it.isBad) row.className = 'bad';
+  if (it.refused) {
+    row.classList.add('refused');
     row.textContent = it.label;
     return row;
   }
   const button = document.createElement('button');
   button.textContent = it.label;
   if (it.fen) button.title = it.fen;
-  button.onclick = () => (it.fen ? openPosition(it) : openListed(it));
+  if (it.isBad) button.title = 'Show it repaired';
+  button.onclick = () => (it.fen ? openPosition(it) : it.isBad ? openRepaired(it) : openListed(it));
   if (it.finding) row.className = 'finding';
   row.append(button);
   return row;
@@ -166,13 +190,21 @@ export const read = async (bytes, { before = game.acts, file = null } = {}) => {
   add((await ask('games', { bytes, isPasted: !file }, add)).found);
   await mine.first;
   if (collection !== mine) return;
+  const [bad] = mine.first ? [] : mine.found;
+  const saved = bad && before !== null ? await repairedOf(mine, bad) : null;
+  if (collection !== mine) return;
   // (a text without a game leaves the list that was there)
-  if (!file && !mine.first && old.first) collection = old;
+  if (!file && !mine.first && !saved && old.first) collection = old;
   show();
   if (before === null) return;
+  const isFree = () => game.acts === before;
   if (mine.first) {
-    if (!mine.isLoaded && game.acts !== before) page.told('The games of the file are in the list; the board is as you left it.');
-  } else if (mine.found.length) page.told(`No game can be read: ${faultWords(mine.found[0].fault, mine.found[0].where)}.`);
+    if (!mine.isLoaded && !isFree()) page.told('The games of the file are in the list; the board is as you left it.');
+  } else if (saved) {
+    // (where none can be read the first is shown repaired)
+    if (await inTurn(async () => isFree() && takeRepaired(saved, bad, !file || !isAsLoaded()))) noteOpened(mine, bad);
+    else if (!isFree()) page.told('The game is in the list; the board is as you left it.');
+  } else if (bad) page.told(`No game can be read: ${faultWords(bad.fault, bad.where)}.`);
   else page.told('There is no game in it.');
 };
 

@@ -1,13 +1,14 @@
 // The game on the board: what the board says of it, the comment that is being typed, and the states before.
 import { ask } from './ask.js';
+import { joined, split, toggled } from './commands.js';
 import { History } from './history.js';
 import { shown, toBytes } from './jatshegi/src/bytes.js';
 import { typed } from './pgn.js';
 import { faultText, refusal } from './words.js';
 
 /**
- * `acts` is how much a person has done: what is read from a file meanwhile doesn't take its place. `draft` is the comment that is being typed, with the path of its
- * node: it is kept until it is set or given up. `isMoved` is whether what is drawn comes of a move that was made, or of a game that was begun.
+ * `acts` is how much a person has done: what is read from a file meanwhile doesn't take its place. `draft` is the comment that is being typed, `{path, text, box}`:
+ * the path of its node, the whole comment, and the words in the box. It is kept until it is set or given up. `isMoved` is whether what is drawn comes of a move that was made, or of a game that was begun.
  */
 export const game = { state: null, origin: null, history: new History(), draft: null, acts: 0, isMoved: false };
 
@@ -167,6 +168,13 @@ const answered = async (all) => {
 
 /** Has the board answer lines, and draws what it then is. Returns whether all were answered. */
 export const lines = (...all) => doing(() => answered(all));
+
+/** Draws an arrow or a circle in the comment at the cursor, as `Ge2e4` or `Rd5`, or takes it out. `said` gives the comment there. */
+export const drawn = (item, said) => doing(async () => {
+  if (!await isSettled()) return false;
+  const { commands, words } = split(said());
+  return answered([`comment ${typed(joined(toggled(commands, item), words))}`]);
+});
 
 /** Plays the move that a text as people type it means. Where it means none or several, that is said and nothing has changed. */
 export const playTyped = (text) => doing(async () => {

@@ -1,15 +1,18 @@
 // The page: carries what a person does to the module as lines, and draws what it answers.
 import { ask, module } from './ask.js';
-import { moveNow, points, positionChanged, positionDrawn, reply, toggleAnalysis } from './analysis.js';
-import { Board, man, named } from './board.js';
+import { moveNow, points, positionChanged, positionDrawn, reply, toggleAnalysis, toggleDepths } from './analysis.js';
+import { joined, split } from './commands.js';
 import { dialogs, openDialog, placeAt } from './dialogs.js';
-import { drawMoves, drawPlayers, drawStatus, drawTags, marksHere, pathAt, saidHere, showComment } from './draw.js';
+import { drawMoves, drawPlayers, drawStatus, drawTags, marksHere, pathAt, saidHere, shapesHere, showComment } from './draw.js';
 import { editing } from './editor.js';
 import { choose, download, listAgain, markOpened, read, readWhole, saveBack, showCollection } from './files.js';
-import { begin, exported, fileName, game, isSettled, lines, mark, page, playTyped, redo, settled, stepped, doing, undo, unmark } from './game.js';
+import { begin, drawn, exported, fileName, game, isSettled, lines, mark, page, playTyped, redo, settled, stepped, doing, undo, unmark } from './game.js';
 import { keepOffline } from './kept.js';
 import { faultOf, isEmbedded, keepLink, linkNow, linked, openLink } from './link.js';
 import { shown, toBytes } from './jatshegi/src/bytes.js';
+import { styled } from './jatshegi/src/look.js';
+import { man, named } from './jatshegi/src/men.js';
+import { Board } from './jatshegi/src/view.js';
 import { allTexts, beside, beyond, canRedo, canUndo, keep, keepsGames, noteChange, openKept, start } from './mine.js';
 import { drawOwn, ownCommands } from './own.js';
 import { typed } from './pgn.js';
@@ -45,6 +48,7 @@ page.draw = () => {
   drawStatus();
   drawPlayers(view.turned);
   drawMoves();
+  view.mark(shapesHere());
   if (!by('fenbox').open) by('fen').value = game.state.fen;
   by('saveback').hidden = !game.origin;
   markOpened();
@@ -99,6 +103,22 @@ const forward = () => doing(() => (can('forward') ? stepped('step 0') : isSettle
 const toStart = () => lines('start');
 const toEnd = () => lines('end');
 
+// How far the wheel has been turned on the board since the last step: a notch of a mouse's is a step. Where the page itself scrolls, the wheel does that.
+const A_NOTCH = 60;
+let turnedBy = 0;
+const wheeled = (event) => {
+  const { scrollHeight, clientHeight } = document.documentElement;
+  if (event.ctrlKey || scrollHeight > clientHeight) return;
+  event.preventDefault();
+  const { deltaMode, deltaY } = event;
+  const far = deltaY * [1, 33, 400][deltaMode];
+  turnedBy = Math.sign(far) === Math.sign(turnedBy) ? turnedBy + far : far;
+  if (Math.abs(turnedBy) < A_NOTCH) return;
+  if (turnedBy > 0) forward();
+  else back();
+  turnedBy = 0;
+};
+
 const steps = () => {
   const does = { start: toStart, back, forward, end: toEnd, undo, redo, flip, promote: () => lines('promote'), delete: () => lines('delete') };
   for (const [id, call] of Object.entries(does)) by(id).onclick = call;
@@ -108,6 +128,7 @@ const steps = () => {
     const text = by('san').value.trim();
     if (text && await playTyped(text)) by('san').value = '';
   };
+  by('board').addEventListener('wheel', wheeled, { passive: false });
   by('moves').onclick = (event) => {
     const path = pathAt(event.target);
     if (path !== undefined) lines(`goto ${path}`);
@@ -123,8 +144,9 @@ const annotations = () => {
   };
   by('comment').oninput = () => {
     game.acts++;
-    const text = by('comment').value;
-    game.draft = text === saidHere() ? null : { path: game.state.path, text };
+    const box = by('comment').value;
+    const { commands, words } = split(saidHere());
+    game.draft = box === words ? null : { path: game.state.path, text: joined(commands, box), box };
     keep();
     reply();
   };
@@ -195,17 +217,19 @@ const games = () => {
   by('save').onclick = out(async () => download(toBytes(exported()), fileName()));
   by('saveall').onclick = out(async () => download(toBytes(await allTexts()), `games-${new Date().toISOString().slice(0, 10)}.pgn`));
   by('saveback').onclick = out(saveBack);
+  by('print').onclick = () => globalThis.print();
   by('find').oninput = showCollection;
 };
 
 const engine = () => {
   by('analyse').onclick = toggleAnalysis;
   by('now').onclick = moveNow;
+  by('depths').onclick = toggleDepths;
   for (const id of ['depth', 'plays']) by(id).addEventListener('change', () => positionChanged());
 };
 
 // An arrow steps wherever nothing is typed and no box is open.
-const KEYS = { ArrowLeft: back, ArrowRight: forward, ArrowUp: toStart, ArrowDown: toEnd, Home: toStart, End: toEnd, f: flip, l: toggleAnalysis, '/': () => by('san').focus() };
+const KEYS = { ArrowLeft: back, ArrowRight: forward, ArrowUp: toStart, ArrowDown: toEnd, Home: toStart, End: toEnd, f: flip, l: toggleAnalysis, '/': () => by('san').focus(), '?': () => openDialog('keysbox') };
 
 const FRAME_KEYS = ['ArrowLeft', 'ArrowRight', 'ArrowUp', 'ArrowDown', 'Home', 'End', 'f'];
 
@@ -226,7 +250,9 @@ const keys = (event) => {
   // (with Alt an arrow steps from a field, too)
   const isStep = event.altKey && !event.shiftKey && (key === 'ArrowLeft' || key === 'ArrowRight');
   if (isEmbedded() && !FRAME_KEYS.includes(key)) return;
-  if (!KEYS[key] || !(isStep || !(typing || event.altKey || event.shiftKey))) return;
+  // (which keys give `/` and `?` is the keyboard's own)
+  const isShifted = event.shiftKey && key !== '?' && key !== '/';
+  if (!KEYS[key] || !(isStep || !(typing || event.altKey || isShifted))) return;
   event.preventDefault();
   KEYS[key]();
 };
@@ -285,7 +311,8 @@ const framed = async () => {
 
 const main = async () => {
   if (!isEmbedded()) openKept();
-  view = new Board(by('board'), { wants: move, asks: askPromotion });
+  styled(document);
+  view = new Board(by('board'), { wants: move, asks: askPromotion, draws: (item) => drawn(item, saidHere) });
   points.at = (m) => view.point(m);
   document.documentElement.classList.toggle('framed', isEmbedded());
   for (const give of [settings, dialogs, steps, annotations, games, engine, ...(isEmbedded() ? [] : [drops, ownCommands])]) give();

@@ -34,6 +34,22 @@ export const FAULTS = [
   'the text ends too soon', 'a FEN that spells no position', 'no memory', 'a game that is too large',
 ];
 
+const REPAIRS = {
+  TagQuotes: 'quotation marks of a tag', TagBracket: 'a tag without its bracket', TagName: 'the name of a tag', Fen: 'a FEN', Castling: 'a castling', Squares: 'a castling', Hyphen: 'a hyphen in a move',
+  Colon: 'a colon in a move', Pawn: 'the letter of a pawn', Small: 'a small letter', Large: 'a large letter', Promotion: 'a promotion', Sign: 'a figurine or another sign in a move', Said: 'a word after a move',
+  Value: 'a sign for who stands better', Glyphs: 'too many marks', Number: 'an annotation number', Result: 'the result', Dots: 'an ellipsis', Space: 'a space', Control: 'a control character', Stray: 'a stray sign',
+  Offer: 'an offer of a draw', Angles: 'text in angles', Bracket: 'text in brackets', Symbol: 'an unknown sign', Marker: 'a result in a variation', Nested: 'a comment in a comment', Comment: 'an unclosed comment',
+  Unclosed: 'an unclosed variation', Prose: 'text that belongs to no game', Null: 'a null move, from which on the line is a comment', Illegal: 'a move that isn\u2019t legal, from which on the line is a comment',
+  Unreadable: 'a word that is no move, from which on the line is a comment', Variation: 'a misplaced variation, which is a comment',
+};
+
+/** What was repaired in a game, by the names of the repairs. */
+export const repaired = (names) => {
+  const many = new Map();
+  for (const it of names) many.set(REPAIRS[it] ?? it, (many.get(REPAIRS[it] ?? it) ?? 0) + 1);
+  return [...many].map(([it, count]) => (count > 1 ? `${it} (${count} times)` : it)).join('; ');
+};
+
 /** A refusal of the board, `refused NUMBER NAME`, as a sentence. */
 export const refusal = (answer) => {
   const name = answer.trim().split(' ')[2];

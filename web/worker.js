@@ -6,7 +6,7 @@ import { tagsOf, treeOf } from './jatshegi/src/export.js';
 import { entries, listed, read, salvaged } from './jatshegi/src/games.js';
 import { FAULTS, MEMORY, NONE, OK, OWN_TAG } from './jatshegi/src/memory.js';
 import { typed } from './pgn.js';
-import { spellings, squares } from './spellings.js';
+import { spellings, squares } from './jatshegi/src/spellings.js';
 import { RESULTS, SHOWN } from './words.js';
 
 // The one board begins with 16 MiB, which a game of 160 KB has enough of.
@@ -70,7 +70,6 @@ const standing = (session) => {
     claims: session.claims(),
     checks: session.checks(),
     count: session.repetitions(),
-    value: session.evaluation(),
     counts: session.counts(),
     tags: Object.fromEntries(SHOWN.map((name) => [name, session.tag(name) ?? ''])),
     result: session.result(),
@@ -357,6 +356,12 @@ const jobs = {
     const game = first(bytes);
     if (game.status === OK) return jobs.restore({ bytes: bytes.subarray(0, game.used), path, has });
     return { ...game, where: game.status > FAULTS ? faultAt(bytes, 0, game.status - FAULTS, placeIn(bytes, game.used)) : null };
+  },
+
+  // The first game of a text that can't be read, as far as the module saves it: its export form, the names of its repairs, and whether a move is left; null where nothing is.
+  salvage({ bytes }) {
+    const saved = orMemory(() => salvaged(bytes), null);
+    return saved && { bytes: saved.bytes, repairs: saved.repairs.map(({ name }) => name), hasMoves: treeOf(fromBytes(saved.bytes)).children.length > 0 };
   },
 
   // The game of a text which the board wrote comes on the board, the cursor at that path.

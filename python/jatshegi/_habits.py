@@ -190,8 +190,11 @@ class Habits:
         found = self.outcome(claim_draw=claim_draw)
         return "*" if found is None else found.result()
 
-    # Whether a draw may be claimed, by the position or with a legal move (FIDE Laws 9.2, 9.3).
+    # Whether a draw may be claimed, by the position or with a legal move (FIDE Laws 9.2, 9.3). A claim by repetition needs eight plies without a capture or a pawn's
+    # move, one by 50 moves needs 100, and the move of the claim is one of them.
     def _can_claim(self, which: int) -> bool:
+        if self.halfmove_clock < (7, 99)[which]:
+            return False
         return self.claims()[which] or any(self.claims(move)[which] for move in self.legal_moves)
 
     def can_claim_threefold_repetition(self) -> bool:

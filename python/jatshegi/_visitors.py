@@ -1,6 +1,7 @@
 """What goes through a game and makes something of it, as its text."""
 from __future__ import annotations
 
+import re
 from enum import Enum
 from typing import TYPE_CHECKING, Generic, List, Optional, Tuple, TypeVar
 
@@ -118,10 +119,25 @@ def _show(node: Node, board: Board, visitor: BaseVisitor[_Result]) -> None:
         visitor.visit_comment(node._comment)
 
 
-class StringExporter(BaseVisitor[str]):
-    """The text of a game, or of a move and all that follows, with or without its tags, its comments and annotations, and its variations; in lines of less
-    than `columns` bytes, or in one. By default that of a game is the one in export form, `str(game)`.
+class _Standard(int):
+    """The width of the lines of the export form, which break at each space."""
 
+
+_STANDARD = _Standard(80)
+# The words of a comment, of which a command such as `[%clk 0:05:00]` is a part.
+_PARTS = re.compile(r"(?:\[%[^][]*\]|[^ ])+")
+
+
+class StringExporter(BaseVisitor[str]):
+    """The text of a game, or of a move and all later moves, with or without its tags, its comments and annotations, and its variations.
+
+    By default the text of a game is its export form, `str(game)`. If you pass `columns`, lines have less than that number of bytes and don't break within a command
+    such as `[%clk 0:05:00]`. A longer word gets its own line. With `columns=None` all moves are on one line.
+
+    >>> clock = jatshegi.pgn.read_game("1. e4 {[%clk 0:05:00]} e5 {[%clk 0:04:59]} *")
+    >>> print(clock.accept(jatshegi.pgn.StringExporter(headers=False, columns=32)).strip())
+    1. e4 {[%clk 0:05:00]} 1... e5
+    {[%clk 0:04:59]} *
     >>> game = jatshegi.pgn.read_game("1. e4 {best by test} e5 (1... c5) 2. Nf3 *")
     >>> game.accept(jatshegi.pgn.StringExporter(headers=False, comments=False, columns=None)).strip()
     '1. e4 e5 (1... c5) 2. Nf3 *'
@@ -129,7 +145,7 @@ class StringExporter(BaseVisitor[str]):
     '1. e4 {best by test} 1... e5 2. Nf3'
     """
 
-    def __init__(self, *, headers: bool = True, comments: bool = True, variations: bool = True, columns: Optional[int] = 80) -> None:
+    def __init__(self, *, headers: bool = True, comments: bool = True, variations: bool = True, columns: Optional[int] = _STANDARD) -> None:
         self._headers, self._comments, self._variations, self._columns = headers, comments, variations, columns
         self._encoding = "utf-8"
         self.begin_game()
@@ -172,7 +188,7 @@ class StringExporter(BaseVisitor[str]):
     def visit_comment(self, comment: str) -> None:
         if self._comments and self._is_written():
             self._opened += "{"
-            for word in comment.split(" "):
+            for word in comment.split(" ") if isinstance(self._columns, _Standard) else _PARTS.findall(comment) or [""]:
                 self._word(word)
             self._last += "}"
             self._is_due = True

@@ -10,6 +10,8 @@ export type Score = { cp: number } | { mate: number };
 /** The text of a move, standard or long algebraic, or its squares. */
 export type MoveLike = string | { from: string; to: string; promotion?: string };
 export interface Place { byte: number; line: number; column: number }
+/** A sign after a move. */
+export type Suffix = '!' | '?' | '!!' | '!?' | '?!' | '??';
 export type Result = '*' | '1-0' | '0-1' | '1/2-1/2';
 
 export declare const DEFAULT_POSITION: string;
@@ -23,6 +25,7 @@ export declare const QUEEN: 'q';
 export declare const KING: 'k';
 export declare const SEVEN_TAG_ROSTER: readonly string[];
 export declare const SQUARES: readonly Square[];
+export declare const SUFFIX_LIST: readonly Suffix[];
 
 /** Begins with the module's bytes, or with what WebAssembly compiled of them. The package itself does it, the entry `jatshegi/core` doesn't. */
 export declare function start(source: BufferSource | WebAssembly.Module): void;
@@ -80,6 +83,8 @@ export declare class Move {
   isKingsideCastle(): boolean;
   isQueensideCastle(): boolean;
   isBigPawn(): boolean;
+  /** Always false: no move here is null. */
+  isNullMove(): boolean;
   toString(): string;
 }
 
@@ -146,16 +151,21 @@ export declare class Game {
 }
 
 export declare class Chess {
-  constructor(fen?: string, options?: object);
+  /** With `skipValidation` a FEN that is well formed, but not a position, is a draft: pieces can be placed, and what needs a position throws. */
+  constructor(fen?: string, options?: { skipValidation?: boolean });
   /** The board's answer to a line as `chess board` writes it. */
   line(text: string): string;
-  fen(): string;
-  load(fen: string, options?: { preserveHeaders?: boolean }): void;
+  /** With `target: 'legal'` or `forceEnpassantSquare: false` an en passant target only if a legal move captures there. */
+  fen(options?: { target?: 'always' | 'legal'; forceEnpassantSquare?: boolean }): string;
+  /** The key of Polyglot's opening books, 16 hexadecimal digits. */
+  hash(): string;
+  load(fen: string, options?: { preserveHeaders?: boolean; skipValidation?: boolean }): void;
   reset(options?: { preserveHeaders?: boolean }): void;
   clear(options?: { preserveHeaders?: boolean }): void;
   turn(): Color;
   moveNumber(): number;
   get(square: string): Piece | undefined;
+  /** After a move a new game begins with the changed position. `false` for a second king of a colour. */
   put(piece: Piece, square: string): boolean;
   remove(square: string): Piece | undefined;
   board(): ({ square: Square; type: PieceSymbol; color: Color } | null)[][];
@@ -168,8 +178,11 @@ export declare class Chess {
   moves(options?: { verbose?: false; square?: string; piece?: PieceSymbol }): string[];
   moves(options: { verbose: true; square?: string; piece?: PieceSymbol }): Move[];
   lans(): string[];
+  /** The number of series of `depth` legal moves, 0 to 16. */
+  perft(depth: number): number;
+  /** A text that names no move may be another spelling of a move, unless it is to be `strict`. */
   move(move: MoveLike, options?: { strict?: boolean }): Move;
-  isLegal(move: MoveLike): boolean;
+  isLegal(move: MoveLike, options?: { strict?: boolean }): boolean;
   undo(): Move | null;
   history(options?: { verbose?: false }): string[];
   history(options: { verbose: true }): Move[];
@@ -186,6 +199,8 @@ export declare class Chess {
   isDrawByFiftyMoves(): boolean;
   isDraw(): boolean;
   isGameOver(): boolean;
+  /** The side that has mated, or null. */
+  winner(): Color | null;
   counts(color: Color): Record<Square, number>;
   isAttacked(square: string, color: Color): boolean;
   attackers(square: string, color?: Color): Square[];
@@ -208,11 +223,22 @@ export declare class Chess {
   getComment(): string | undefined;
   setComment(text: string): void;
   removeComment(): string | undefined;
-  getComments(): { fen: string; comment: string }[];
+  /** @deprecated as in chess.js: `removeComment` */
+  deleteComment(): string | undefined;
+  /** The comments and signs of the line to the cursor. */
+  getComments(): { fen: string; comment?: string; suffixAnnotation?: Suffix }[];
   removeComments(): { fen: string; comment: string }[];
-  pgn(options?: { newline?: string }): string;
+  /** @deprecated as in chess.js: `removeComments` */
+  deleteComments(): { fen: string; comment: string }[];
+  /** The sign after a move: of the cursor's, or of the position with that FEN in the line to it. */
+  getSuffixAnnotation(fen?: string): Suffix | undefined;
+  setSuffixAnnotation(suffix: Suffix, fen?: string): void;
+  removeSuffixAnnotation(fen?: string): Suffix | undefined;
+  /** The moves are in lines of at most `maxWidth` characters where words allow; 0 is one line. */
+  pgn(options?: { newline?: string; maxWidth?: number }): string;
   pgnBytes(): Uint8Array;
-  loadPgn(text: string | ArrayBufferView | ArrayBuffer, options?: object): void;
+  /** `onRepair` saves a game that can't be read, and has its repairs. `newlineChar` is a regular expression of a line's end. */
+  loadPgn(text: string | ArrayBufferView | ArrayBuffer, options?: { onRepair?: (repairs: Repair[]) => void; strict?: boolean; newlineChar?: string }): void;
   clone(): Chess;
   getHeaders(): Record<string, string>;
   setHeader(name: string, value: string): Record<string, string>;

@@ -23,13 +23,14 @@ use Rattle.chess_types.proofs.Runs.{list_any_at, list_any_from, same_test}
 use Rattle.chess_types.proofs.Sums.{bit, total, total-at, total-agree, total-zero}
 use Rattle.chess_attack.specs.declared.way.Way.{Way}
 use Rattle.chess_attack.specs.steps.Halves.{on_half, opposite}
+use Rattle.chess_attack.specs.steps.Marks.{reaches}
 use Rattle.chess_attack.specs.steps.PinHalves.{round}
 use Rattle.chess_attack.specs.steps.Leaps.{leaps_there}
 use Rattle.chess_attack.specs.steps.Through.{is_attacked_along, is_slider, movers}
 use Rattle.chess_attack.proofs.Counting.{weight, count_is_total}
 use Rattle.chess_attack.proofs.Flips.{leap_back}
 use Rattle.chess_attack.proofs.XRays.{mover_is}
-use Rattle.chess_attack.proofs.Cuts.{IsSeen, seen_parts, seen_from}
+use Rattle.chess_attack.proofs.Cuts.{IsSeen, seen_parts, seen_from, slider_parts}
 use Rattle.chess_attack.proofs.Eights.{some_half}
 use Rattle.chess_attack.proofs.KingSteps.{clear_flip}
 use Rattle.chess_attack.proofs.PinHalves.{half_back, round_at, round_from}
@@ -238,3 +239,58 @@ holds_none set none =
       | inr e ↦ e
       | inl h ↦ let (a, low, high, e) : (a : ℕ) × (0 ≤ a) × (a < 0 + 64) × (contains set a ≡ true) = list_any_at (contains set) 0 64 h in absurd (true≢false (sym e ∙ none a))
     ]
+
+-- ---- which men attack a square
+
+-- on one of the halves the first man from s, if he is one who moves along it
+abbrev pub seen_around : Men → Colour → ℕ → ℕ → Bool
+seen_around man_on c s a = round (λ axis way. reaches man_on axis way s a && is_slider (man_on a) axis c)
+
+-- a man's attack is a leap, or he is the first on one of the halves and moves along it
+around_from :
+    (man_on : Men) (c : Colour) (s a : ℕ) (o : Option Man) → a < 64 → s < 64 → man_on a ≡ o → attacks_for o c man_on a s ≡ true →
+    (leaps_there o c a s || round (λ axis way. reaches man_on axis way s a && is_slider o axis c)) ≡ true
+unfolding attacks_as
+around_from man_on c s a None ha hs here h = absurd (true≢false (sym h))
+around_from man_on c s a (Some man) ha hs here h =
+    let p : (same_colour man.colour c ≡ true) × (attacks_as man man_on a s ≡ true) = and_parts _ _ h in
+    elim (or_cases (leaps man.colour man.kind a s) (slides_to man.kind a s && is_clear man_on a s) p.1) [
+      | inl leap ↦ rw (p.0, leap) refl
+      | inr slide ↦
+          let q : (slides_to man.kind a s ≡ true) × (is_clear man_on a s ≡ true) = and_parts _ _ slide in
+          elim (some_half a s) [
+            | inr off ↦ absurd (true≢false (sym q.0 ∙ slides_off man.kind a s off))
+            | inl (axis, (way, half)) ↦
+                let back : on_half axis (opposite way) s a ≡ true = half_back axis way a s half in
+                let moves : slides man.kind axis ≡ true = sym (slides_half man.kind axis way a s ha hs half) ∙ q.0 in
+                let seen : (reaches man_on axis (opposite way) s a && is_slider (Some man) axis c) ≡ true =
+                and_from _ _ (and_from _ _ back (clear_flip man_on s a ∙ q.1)) (and_from _ _ p.0 moves) in
+                ap (λ b. leaps_there (Some man) c a s || b)
+                (round_from (λ axis way. reaches man_on axis way s a && is_slider (Some man) axis c) axis (opposite way) seen)
+                ∙ or-true (leaps_there (Some man) c a s)
+          ]
+    ]
+
+-- and each of these men attacks
+around_attacks :
+    (man_on : Men) (c : Colour) (s a : ℕ) → a < 64 → s < 64 → seen_around man_on c s a ≡ true → attacks_for (man_on a) c man_on a s ≡ true
+around_attacks man_on c s a ha hs h =
+    let (axis, (way, on)) : (axis : Axis) × ((way : Way) × ((reaches man_on axis way s a && is_slider (man_on a) axis c) ≡ true)) =
+    round_at (λ axis way. reaches man_on axis way s a && is_slider (man_on a) axis c) h in
+    let p : (reaches man_on axis way s a ≡ true) × (is_slider (man_on a) axis c ≡ true) = and_parts _ _ on in
+    let r : (on_half axis way s a ≡ true) × (is_clear man_on s a ≡ true) = and_parts _ _ p.0 in
+    let (m, holds, mine, moves) : (m : Man) × (man_on a ≡ Some m) × (same_colour m.colour c ≡ true) × (slides m.kind axis ≡ true) =
+    slider_parts (man_on a) axis c p.1 in
+    slide_attacks man_on c s axis way a m hs
+    (record { first = record { on_board = ha; half = r.0; clear = r.1; holds = holds }; mine = mine; moves = moves })
+
+pub attackers_are :
+    (man_on : Men) (c : Colour) (s a : ℕ) → a < 64 → s < 64 →
+    (leaps_there (man_on a) c a s || seen_around man_on c s a) ≡ attacks_for (man_on a) c man_on a s
+attackers_are man_on c s a ha hs = same_test _ _
+    (λ h.
+    elim (or_cases _ _ h) [
+      | inl leap ↦ leap_attacks man_on c s a (man_on a) leap
+      | inr around ↦ around_attacks man_on c s a ha hs around
+    ])
+    (λ h. around_from man_on c s a (man_on a) ha hs refl h)

@@ -1,11 +1,17 @@
--- The only king of a colour, and the men that attack it.
-use Rattle.std.proofs.Common.{◌≡◌, ℕ, zero, suc, ◌+◌, ◌<◌, ◌≤◌, Bool, true, false, ◌&&◌, refl, ap, subst, arith, inl, inr}
-use Rattle.std.proofs.lemmas.Bool.{and_parts, and_from, cases_eq, cases_order}
+-- The only king of a colour, and the men that attack it; and the kings of a colour gone through, whether one is attacked.
+use Rattle.std.proofs.Common.{◌≡◌, ℕ, zero, suc, ◌+◌, ◌<◌, ◌≤◌, Bool, true, false, ◌&&◌, refl, sym, ap, subst, ◌∙◌, arith, inl, inr}
+use Rattle.std.specs.Ordering.{nat_cmp}
+use Rattle.std.specs.Cmp.{unsigned_tied}
+use Rattle.std.specs.FinSet.{FinSet, contains, remove, contains-remove}
+use Rattle.std.proofs.lemmas.Cmp.{nat_cmp_total}
+use Rattle.std.proofs.lemmas.Bool.{and_parts, and_from, cases_Bool, cases_eq, cases_order, true≢false}
+use Rattle.std.proofs.lemmas.Bool.Decides.{nat_tests}
 use Rattle.chess_types.specs.declared.board.man.Colour.{Colour}
-use Rattle.chess_types.specs.board.Board.{Board, man_at}
+use Rattle.chess_types.specs.board.Board.{Board, Men, man_at}
 use Rattle.chess_types.specs.board.Squares.{squares}
 use Rattle.chess_types.specs.board.Men.{count_squares, is_king_of, kings_of, opponent}
 use Rattle.chess_types.specs.board.Attack.{attacks_for, checks_from, is_attacked, in_check}
+use Rattle.chess_types.specs.steps.KeptSets.{Gathers}
 use Rattle.chess_types.proofs.Sums.{bit, total, sum_by-range, total-at, total-agree, total-zero}
 use Rattle.chess_types.proofs.Runs.{list_any_at, list_any_from, same_test}
 
@@ -80,3 +86,53 @@ checked_at board colour king one hk here =
     let (s, low, high, p) : (s : ℕ) × (0 ≤ s) × (s < 0 + 64) × (test s ≡ true) = list_any_at test 0 64 h in
     let q : (is_king_of colour (man_at board s) ≡ true) × (is_attacked (man_at board) (opponent colour) s ≡ true) = and_parts _ _ p in
     subst (λ x. is_attacked (man_at board) (opponent colour) x ≡ true) (one_king board colour s king one (omega arith) hk q.0 here) q.1)
+
+-- ---- the kings of a colour gone through
+
+-- those that are left are kings, and no other one is attacked
+pub record AreLeft (man_on : Men) (colour : Colour) (left : FinSet nat_cmp) : Type 0 where
+  pub kings : (s : ℕ) → contains left s ≡ true → is_king_of colour (man_on s) ≡ true
+  pub others : (s : ℕ) → is_king_of colour (man_on s) ≡ true → contains left s ≡ false → is_attacked man_on (opponent colour) s ≡ false
+
+pub all_left : (man_on : Men) (colour : Colour) (left : FinSet nat_cmp) → Gathers left (is_king_of colour) man_on → AreLeft man_on colour left
+all_left man_on colour left are = record {
+  kings = λ s h. sym (are s) ∙ h;
+  others = λ s king out. absurd (true≢false (sym (are s ∙ king) ∙ out));
+}
+
+pub one_left :
+    (man_on : Men) (colour : Colour) (left : FinSet nat_cmp) (t : ℕ) → AreLeft man_on colour left → is_attacked man_on (opponent colour) t ≡ false →
+    AreLeft man_on colour (remove left t)
+one_left man_on colour left t so_far safe = record {
+  kings = λ s h. so_far.kings s (grind (arith, contains-remove nat_cmp_total left t s, h));
+  others = λ s king out.
+      elim (cases_eq t s) [
+        | inl same ↦ subst (λ x. is_attacked man_on (opponent colour) x ≡ false) same safe
+        | inr other ↦
+            let kept : contains (remove left t) s ≡ contains left s =
+            contains-remove nat_cmp_total left t s ∙ grind (arith, nat_tests, unsigned_tied s t) in
+            so_far.others s king (sym kept ∙ out)
+      ];
+}
+
+pub one_attacked :
+    (man_on : Men) (colour : Colour) (left : FinSet nat_cmp) (t : ℕ) → AreLeft man_on colour left → t < 64 → contains left t ≡ true →
+    is_attacked man_on (opponent colour) t ≡ true → in_check man_on colour ≡ true
+unfolding in_check squares
+one_attacked man_on colour left t so_far ht held attacked =
+    list_any_from (λ s. is_king_of colour (man_on s) && is_attacked man_on (opponent colour) s) 0 64 t (omega arith) ht
+    (and_from _ _ (so_far.kings t held) attacked)
+
+pub none_left :
+    (man_on : Men) (colour : Colour) (left : FinSet nat_cmp) → AreLeft man_on colour left → ((s : ℕ) → contains left s ≡ false) →
+    in_check man_on colour ≡ false
+unfolding in_check squares
+none_left man_on colour left so_far none =
+    let test : ℕ → Bool = λ s. is_king_of colour (man_on s) && is_attacked man_on (opponent colour) s in
+    elim (cases_Bool (in_check man_on colour)) [
+      | inr e ↦ e
+      | inl h ↦
+          let (s, low, high, p) : (s : ℕ) × (0 ≤ s) × (s < 0 + 64) × (test s ≡ true) = list_any_at test 0 64 h in
+          let q : (is_king_of colour (man_on s) ≡ true) × (is_attacked man_on (opponent colour) s ≡ true) = and_parts _ _ p in
+          absurd (true≢false (sym q.1 ∙ so_far.others s q.0 (none s)))
+    ]

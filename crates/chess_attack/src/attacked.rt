@@ -1,4 +1,4 @@
-//! Whether a square is attacked (FIDE Laws 3.1.2), looked at from the square by sets of squares, without a count.
+//! Whether a square is attacked (FIDE Laws 3.1.2), and by which men, looked at from the square by sets of squares, without a count.
 
 ghost use Rattle.std.specs.Prelude.{◌≡◌, ℕ, ◌<◌, ◌&&◌, ◌||◌, true, false};
 ghost use Rattle.std.specs.List.{list_any};
@@ -6,15 +6,16 @@ ghost use Rattle.std.specs.FinSet.{contains};
 ghost use Rattle.chess_types.specs.board.Board.{man_at};
 ghost use Rattle.chess_types.specs.board.Men.{is_man};
 ghost use Rattle.chess_types.specs.board.Squares.{squares};
-ghost use Rattle.chess_types.specs.board.Attack.{is_attacked, leaps};
+ghost use Rattle.chess_types.specs.board.Attack.{attacks_for, is_attacked, leaps};
 ghost use Rattle.chess_types.specs.steps.KeptSets.{Gathers};
 ghost use Rattle.chess_attack.specs.steps.Halves.{on_half};
+ghost use Rattle.chess_attack.specs.steps.Marks.{reaches};
 ghost use Rattle.chess_attack.specs.steps.Through.{is_attacked_along, is_slider};
 ghost use Rattle.chess_attack.specs.steps.PinHalves.{along, round};
 ghost use Rattle.chess_attack.specs.steps.Leaps.{leaps_there};
 
 use crate::lines::{half, leap_squares};
-use crate::walk::first;
+use crate::walk::{first, reach};
 use crate::way::Way;
 use crate::x_rays::sliders;
 use chess_types::{Axis, Colour, Kind, Placement, Square, SquareSet};
@@ -127,4 +128,42 @@ pub fn is_attacked(placement: &Placement, colour: Colour, square: Square) -> boo
     ensures { result ≡ is_attacked (man_at placement.now) colour square }
 {
     holds_any(leapers(placement, colour, square)) || is_seen_around(placement, square, colour)
+}
+
+/// The first man on that half of the axis, if he is of the colour and moves along it.
+#[inline(always)]
+fn slider_on(placement: &Placement, axis: Axis, way: Way, at: Square, colour: Colour) -> SquareSet
+    ensures { (a : ℕ) → a < 64 → contains result a ≡ (reaches (man_at placement.now) axis way at a && is_slider (man_at placement.now a) axis colour) }
+{
+    let men = sliders_of(placement, axis, colour);
+    reach(placement, axis, way, at).intersection(men)
+}
+
+/// The same of both halves of the axis.
+#[inline(always)]
+fn sliders_along(placement: &Placement, axis: Axis, at: Square, colour: Colour) -> SquareSet
+    ensures { (a : ℕ) → a < 64 → contains result a ≡ along (λ b way. reaches (man_at placement.now) b way at a && is_slider (man_at placement.now a) b colour) axis }
+{
+    let up = slider_on(placement, axis, Way::Up, at, colour);
+    up.union(slider_on(placement, axis, Way::Down, at, colour))
+}
+
+/// The same of the eight halves: the bishops, rooks and queens of the colour that attack the square.
+#[inline(always)]
+fn sliders_around(placement: &Placement, at: Square, colour: Colour) -> SquareSet
+    ensures { (a : ℕ) → a < 64 → contains result a ≡ round (λ axis way. reaches (man_at placement.now) axis way at a && is_slider (man_at placement.now a) axis colour) }
+{
+    let ranks = sliders_along(placement, Axis::Rank, at, colour);
+    let files = sliders_along(placement, Axis::File, at, colour);
+    let rising = sliders_along(placement, Axis::Rising, at, colour);
+    let falling = sliders_along(placement, Axis::Falling, at, colour);
+    ranks.union(files).union(rising).union(falling)
+}
+
+/// The squares of the men of the colour that attack the square, even if one of their own men is on it. A king attacks, and so does a pinned
+/// man, but no man attacks over another one (FIDE Laws 3.1 to 3.8).
+pub fn attackers(placement: &Placement, colour: Colour, square: Square) -> SquareSet
+    ensures { (a : ℕ) → a < 64 → contains result a ≡ attacks_for (man_at placement.now a) colour (man_at placement.now) a square }
+{
+    leapers(placement, colour, square).union(sliders_around(placement, square, colour))
 }

@@ -171,6 +171,11 @@ impl Taker for Heads<'_> {
             Err(_) => Err(at_place(0, FaultKind::Memory)),
         }
     }
+
+    #[inline(always)]
+    fn is_passing(&self) -> bool {
+        false
+    }
 }
 
 // Whether an item was refused.

@@ -5,7 +5,7 @@ ghost use Rattle.chess_fen.specs.Reading.{board_in};
 
 use super::fault::FenFault;
 use super::ranks::read_cells;
-use chess_types::{Placement, men_fault};
+use chess_types::Placement;
 
 /// The men of the first field.
 #[tactic(auto, unfolding(crate::specs::Reading::board_in))]
@@ -13,8 +13,8 @@ pub fn read_placement(field: &[u8]) -> Result<Placement, FenFault>
     ensures { result ≡ board_in field.now }
 {
     let cells = read_cells(field).ok_or(FenFault::Placement)?;
-    if let Some(fault) = men_fault(&cells) {
-        return Err(FenFault::from(fault));
+    match Placement::try_from_cells(&cells) {
+        Ok(placement) => Ok(placement),
+        Err(fault) => Err(FenFault::from(fault)),
     }
-    Ok(Placement::from_cells(cells))
 }

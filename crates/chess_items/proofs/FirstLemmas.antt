@@ -23,7 +23,7 @@ space : (rest : List ℕ) → item_at InLine (32 ∷ rest) ≡ Some (Blank 32, r
 unfolding item_at outside_at is_word_byte is_name_byte is_digit is_blank
 space rest = refl
 
-period : (rest : List ℕ) → item_at InLine (46 ∷ rest) ≡ Some (Skipped, rest)
+pub period : (rest : List ℕ) → item_at InLine (46 ∷ rest) ≡ Some (Skipped, rest)
 unfolding item_at outside_at sign_at is_word_byte is_name_byte is_digit is_blank is_glyph
 period rest = refl
 
@@ -72,16 +72,12 @@ number_goes text rest b more some each e not =
     item_goes InLine Skipped text rest
     (record { stands = refl; spelled = inr (record { some = some; each = digits_are_words text each; stops = rw (e, not) refl }, rw (all_digits text each) refl) })
 
-pub number_first : {bytes digits rest more : List ℕ} {b n left : ℕ} → n ≡ prefix_len is_digit bytes → digits ≡ take n bytes → rest ≡ drop n bytes → rest ≡ b ∷ more → digits ≢ [] → is_word_byte b ≡ false → left ≡ length rest
-    → IsFirst bytes Skipped left
-number_first {bytes} {digits} {rest} {more} {b} {n} {left} en ed er e some not el =
+pub number_first : {bytes digits rest more : List ℕ} {b n : ℕ} → n ≡ prefix_len is_digit bytes → digits ≡ take n bytes → rest ≡ drop n bytes → rest ≡ b ∷ more → digits ≢ [] → is_word_byte b ≡ false
+    → IsFollowed bytes Skipped rest
+number_first {bytes} {digits} {rest} {more} {b} {n} en ed er e some not =
     let whole : bytes ≡ digits ++ rest = rw (ed, er) (sym (take-append-drop n bytes)) in
     let each : Each is_digit digits = rw (ed, en) (prefix_each is_digit bytes) in
-    record {
-      rest = rest;
-      followed = record { found = sym (ap (item_at InLine) whole ∙ number_goes digits rest b more some each e not); some = (let l = ap length e in omega (arith, l)) };
-      counted = el;
-    }
+    record { found = sym (ap (item_at InLine) whole ∙ number_goes digits rest b more some each e not); some = (let l = ap length e in omega (arith, l)) }
 
 -- what is left is a part of the bytes
 pub left_within : {hand again : List ℕ} {item : Item} {left : ℕ} → IsFirst hand item left → again ≡ hand → left ≤ length again

@@ -107,7 +107,7 @@ over_oversized most place hand more over undecided =
     (λ i rest h. let s = undecided_taken place hand more i rest undecided h in omega (arith, l, s))
 
 -- where a byte follows the item, the bytes decide it
-found_decides : (place : Place) (hand : List ℕ) (item : Item) (rest : List ℕ) → item_at place hand ≡ the item rest → 0 < length rest → Decides place hand
+pub found_decides : (place : Place) (hand : List ℕ) (item : Item) (rest : List ℕ) → item_at place hand ≡ the item rest → 0 < length rest → Decides place hand
 found_decides place hand item rest found some = go (is_open place hand) refl
   where
     go : (v : Bool) → is_open place hand ≡ v → Decides place hand

@@ -4,6 +4,7 @@ use Rattle.byte_streams.specs.Calls.{Calls, joined}
 use Rattle.byte_streams.proofs.CallLemmas.{Calls-append, joined-append}
 use Rattle.chess_items.specs.Items.{Item, Spells, is_white, place_after}
 use Rattle.chess_items.specs.steps.Deciding.{Decides}
+use Rattle.chess_items.specs.steps.Idle.{PassesIdle}
 use Rattle.chess_items.specs.steps.Taking.{TakesOne, SpellsFrom, Takes, behind, all_white, Asked, UsesItem, Rests, AfterStop, Steps, Took, AfterRun, Ran, RunBreaks}
 use Rattle.chess_items.specs.steps.Texts.{BreaksAt, Needs, size}
 use Rattle.chess_items.specs.declared.at_hand.Fault.{Fault}
@@ -40,6 +41,35 @@ spells_more at place input (x ∷ items) mid item next here n s t =
     let l : length input ≡ length s.0 + length s.1 = ap length s.2 ∙ length-append s.0 s.1 in
     (s.0, s.1, s.2, s.3, s.4, spells_more (at + length s.0) (place_after place x.1) s.1 items mid item next here (omega (arith, n, l)) s.5 t)
 
+-- more items, after as many bytes as were before them
+spells_others : (at : ℕ) (place : Place) (input : List ℕ) (items : List (ℕ × Item)) (mid : List ℕ) (others : List (ℕ × Item)) (rest : List ℕ) (here : ℕ) → here + length mid ≡ at + length input → SpellsFrom at place input items mid
+    → SpellsFrom here (behind place items) mid others rest → SpellsFrom at place input (items ++ others) rest
+spells_others at place input [] mid others rest here n s t =
+    let l = ap length s in
+    let e : here ≡ at = omega (arith, n, l) in
+    subst (λ (k : ℕ). SpellsFrom k place input others rest) e (subst (λ (x : List ℕ). SpellsFrom here place x others rest) (sym s) t)
+spells_others at place input (x ∷ items) mid others rest here n s t =
+    let l : length input ≡ length s.0 + length s.1 = ap length s.2 ∙ length-append s.0 s.1 in
+    (s.0, s.1, s.2, s.3, s.4, spells_others (at + length s.0) (place_after place x.1) s.1 items mid others rest here (omega (arith, n, l)) s.5 t)
+
+behind-others : (place : Place) (items others : List (ℕ × Item)) → behind place (items ++ others) ≡ behind (behind place items) others
+behind-others place [] others = refl
+behind-others place (x ∷ items) others = behind-others (place_after place x.1) items others
+
+white_two : (a b c : Bool) → a && (b && c) ≡ (a && b) && c
+white_two true b c = refl
+white_two false b c = refl
+
+white-others : (items others : List (ℕ × Item)) → all_white (items ++ others) ≡ all_white items && all_white others
+white-others [] others = refl
+white-others (x ∷ items) others = ap (λ (b : Bool). is_white x.1 && b) (white-others items others) ∙ white_two (is_white x.1) (all_white items) (all_white others)
+
+-- some of them were used, so that fewer bytes are at hand
+nearer_on : (items others : List (ℕ × Item)) (n m : ℕ) → (items ≢ [] → n ≤ 65536) → n ≤ 65537 → (others ≢ [] → m + 1 ≤ n) → m ≤ n → items ++ others ≢ [] → m ≤ 65536
+nearer_on [] [] n m few near fewer no_more some = absurd (some refl)
+nearer_on [] (x ∷ others) n m few near fewer no_more some = (let f = fewer (λ e. cc) in omega (arith, f, near))
+nearer_on (x ∷ items) others n m few near fewer no_more some = (let f = few (λ e. cc) in omega (arith, f, no_more))
+
 -- the items alone, without the number of bytes before each
 abbrev pub bare : List (ℕ × Item) → List Item
 bare [] = []
@@ -53,6 +83,10 @@ module _ {T : Type 0} (takes : TakesOne T) where
   pub takes_more : (t m u : T) (items : List (ℕ × Item)) (x : ℕ × Item) → Takes takes t items m → takes m x.0 x.1 (Ok GoesOn) u → Takes takes t (items ++ x ∷ []) u
   takes_more t m u [] x s one = (u, subst (λ y. takes y x.0 x.1 (Ok GoesOn) u) (sym s) one, refl)
   takes_more t m u (y ∷ items) x s one = (s.0, s.1, takes_more s.0 m u items x s.2 one)
+
+  takes_others : (t m u : T) (items others : List (ℕ × Item)) → Takes takes t items m → Takes takes m others u → Takes takes t (items ++ others) u
+  takes_others t m u [] others s more = subst (λ y. Takes takes y others u) (sym s) more
+  takes_others t m u (y ∷ items) others s more = (s.0, s.1, takes_others s.0 m u items others s.2 more)
 
 module _ {X T : Type 0} (comes : X → List ℕ → X → Type 0) (at_hand : X → List ℕ) (all sound : X → Type 0) (reads : X → ℕ) (takes : TakesOne T) (limit : ℕ) (old : X) (t : T) where
   -- So far these items were taken, and the taker wants another.
@@ -167,15 +201,15 @@ module _ {X T : Type 0} (comes : X → List ℕ → X → Type 0) (at_hand : X �
           not_yet = λ e. n.not_yet (w.took.at_end e).1;
         })
 
-    -- with one item more
-    asked_more : (came : List ℕ) (x : ℕ × Item) → Asked comes at_hand all sound reads takes limit old came new t w.items → Asked comes at_hand all sound reads takes limit old came new t (w.items ++ x ∷ [])
-    asked_more came x (inl a) = inl a
-    asked_more came x (inr r) = inr (record {
+    -- with more items
+    asked_others : (came : List ℕ) (more : List (ℕ × Item)) → Asked comes at_hand all sound reads takes limit old came new t w.items → Asked comes at_hand all sound reads takes limit old came new t (w.items ++ more)
+    asked_others came more (inl a) = inl a
+    asked_others came more (inr r) = inr (record {
       split = r.split;
       few = r.few;
       items = r.items;
-      others = r.others ++ x ∷ [];
-      front = ap (λ (z : List (ℕ × Item)). z ++ x ∷ []) r.front ∙ append_assoc r.items r.others (x ∷ []);
+      others = r.others ++ more;
+      front = ap (λ (z : List (ℕ × Item)). z ++ more) r.front ∙ append_assoc r.items r.others more;
       rest = r.rest;
       last = r.last;
       spelled = r.spelled;
@@ -218,7 +252,7 @@ module _ {X T : Type 0} (comes : X → List ℕ → X → Type 0) (at_hand : X �
         items = w.items ++ (at, item) ∷ [];
         took = took_one next is e h;
         taken = takes_more takes t u v w.items (at, item) w.taken taken;
-        asked = asked_more (joined (w.pieces ++ ps)) (at, item) (asked_on one.asked);
+        asked = asked_others (joined (w.pieces ++ ps)) ((at, item) ∷ []) (asked_on one.asked);
         near = (λ h. let n = one.near (w.near h) in omega (arith, n));
         nearer = (λ some h. one.near (w.near h));
       }
@@ -264,6 +298,42 @@ module _ {X T : Type 0} (comes : X → List ℕ → X → Type 0) (at_hand : X �
       after_stop v stop.End a n = record { items = w.items; took = took_rest; taken = subst (λ x. Takes takes t w.items x) (sym a.2) w.taken; asked = asked_on n; ended = a.0; nothing = a.1 }
       after_stop v stop.NoItem a n = record { items = w.items; took = took_rest; taken = subst (λ x. Takes takes t w.items x) (sym a.1) w.taken; none = a.0; asked = asked_on n }
       after_stop v stop.TooLarge a n = record { items = w.items; took = took_rest; mid = u; taken = w.taken; exceeds = a; asked = asked_on n }
+
+  -- whitespace, periods and move numbers were passed over
+  pub passed_on : (at : ℕ) (place : Place) (white : Bool) (now new : X) (u : T) (next : Place) (used : ℕ) → Underway at place white now u → PassesIdle comes at_hand all sound reads takes at (limit - at) place white now new u next used
+      → Underway (at + used) next white new u
+  passed_on at place white now new u next used w p =
+      let ps = p.pieces in
+      let ends : all now → (joined ps ≡ []) × all new = λ e. (p.nothing, p.at_end e) in
+      let len = joined_len at place white now u w ps new p.came in
+      let none = ap length p.nothing in
+      record {
+        pieces = w.pieces ++ ps;
+        came = all_came at place white now u w ps new p.came;
+        items = w.items ++ p.items;
+        took = record {
+          spelled = (λ more over.
+              let mid = at_hand now ++ (joined ps ++ more) in
+              let input = at_hand old ++ (joined (w.pieces ++ ps) ++ more) in
+              let a = length-append (at_hand now) (joined ps ++ more) in
+              let b = length-append (joined ps) more in
+              let c = length-append (at_hand old) (joined (w.pieces ++ ps) ++ more) in
+              let d = length-append (joined (w.pieces ++ ps)) more in
+              let rest : SpellsFrom at (behind GameStart w.items) mid p.items (at_hand new ++ more) =
+              subst (λ (q : Place). SpellsFrom at q mid p.items (at_hand new ++ more)) w.took.stands (subst (λ (x : List ℕ). SpellsFrom at place (at_hand now ++ (x ++ more)) p.items (at_hand new ++ more)) (sym p.nothing) (p.spelled more)) in
+              spells_others 0 GameStart input w.items mid p.items (at_hand new ++ more) at (omega (arith, a, b, c, d, len, w.took.counted)) (spelled_before at place white now u w ps new p.came more ends over) rest);
+          counted = omega (arith, len, none, p.counted, w.took.counted);
+          few = omega (arith, p.few, w.took.few);
+          stands = p.stands ∙ ap (λ (q : Place). behind q p.items) w.took.stands ∙ sym (behind-others GameStart w.items p.items);
+          whites = sym p.whites ∙ ap (λ (b : Bool). b && all_white p.items) w.took.whites ∙ sym (white-others w.items p.items);
+          at_end = ended_so at place white now u w ps new p.came ends;
+          sound_still = p.sound_still;
+        };
+        taken = takes_others takes t u u w.items p.items w.taken p.taken;
+        asked = asked_others at place white now u w ps new p.came (joined (w.pieces ++ ps)) p.items (still_asked at place white now u w ps new p.came p.no_read w.asked);
+        near = (λ h. let n = w.near h in omega (arith, n, p.counted));
+        nearer = (λ some h. nearer_on w.items p.items (length (at_hand now)) (length (at_hand new)) (λ s. w.nearer s h) (w.near h) p.shorter (omega (arith, p.counted)) some);
+      }
 
   pub ran : (at : ℕ) (place : Place) (white : Bool) (now new : X) (u v : T) (why : Stop) → Underway at place white now u → Steps comes at_hand all sound reads takes at (limit - at) place now new u v (Ok (step.Stops why))
       → Ran comes at_hand all sound reads takes limit old new t v (Ok (record { why = why; at = at; place = place; white = white }))

@@ -33,6 +33,11 @@ impl Taker for Whites {
             Ok(Taken::Leaves)
         }
     }
+
+    #[inline(always)]
+    fn is_passing(&self) -> bool {
+        false
+    }
 }
 
 // Whether the bytes begin as a hidden line does.

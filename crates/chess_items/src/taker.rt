@@ -1,8 +1,10 @@
 //! The law of what takes items, one after another.
 
-ghost use Rattle.std.specs.Prelude.{ℕ, Result};
+ghost use Rattle.std.specs.Prelude.{◌≡◌, ℕ, true, Ok, Result};
 ghost use Rattle.chess_items.specs.Items.{Item};
+ghost use Rattle.chess_items.specs.steps.Idle.{is_idle};
 ghost use Rattle.chess_items.specs.steps.Tokens.{item_of};
+ghost use Rattle.chess_items.specs.declared.taker.Taken.TheVariants.{GoesOn};
 
 use crate::fault::PgnFault;
 use crate::token::Token;
@@ -29,4 +31,8 @@ pub trait Taker {
 
     fn take(&mut self, at: usize, token: Token<'_>) -> Result<Taken, PgnFault>
         ensures { takes self.old at (item_of token.entry) result self.new };
+
+    /// Whether whitespace, periods and move numbers are passed over: they are taken and change nothing, and more may come.
+    fn is_passing(&self) -> bool
+        ensures { result ≡ true → (at : ℕ) (item : Item) → is_idle item ≡ true → takes self.now at item (Ok GoesOn) self.now };
 }

@@ -14,6 +14,7 @@ use crate::at_hand::Fault;
 use crate::class::Class;
 use crate::cut::{Comment, comment_at, is_undecided};
 use crate::fault::PgnFault;
+use crate::idle::{behind_number, pass_idle};
 use crate::lexer::item;
 use crate::place::Place;
 use crate::taker::{Taken, Taker};
@@ -196,12 +197,7 @@ fn word_within(bytes: &[u8]) -> Option<(&[u8], &[u8])>
 fn after_number(bytes: &[u8]) -> Option<usize>
     ensures { IfSome result (λ left. IsFirst bytes.now Skipped left) }
 {
-    let (digits, rest) = bytes.split_at(Class::Digit.run_len(bytes));
-    let (&next, _) = rest.split_first()?;
-    if digits.is_empty() || Class::Word.has(next) {
-        return None;
-    }
-    Some(rest.len())
+    Some(behind_number(bytes)?.len())
 }
 
 // Takes an item within a line, after which `left` bytes are left.
@@ -237,17 +233,17 @@ pub fn take_one<X: Text, T: Taker>(text: &mut X, taker: &mut T, spot: Spot) -> R
             at: spot.at,
             most: spot.most,
         };
-        if b == b' ' {
-            return Ok(take_first(text, taker, spot, Token::Blank(b' '), left));
-        }
-        if b == b'.' {
-            return Ok(take_first(text, taker, spot, Token::Skipped, left));
-        }
         if let Some((word, rest)) = word_within(text.unread()) {
             let left = rest.len();
             let used = text.unread().len() - left;
             let step = offer(taker, spot, Token::Word(word), used);
             return Ok(settle(text, step, left));
+        }
+        if b == b' ' {
+            return Ok(take_first(text, taker, spot, Token::Blank(b' '), left));
+        }
+        if b == b'.' {
+            return Ok(take_first(text, taker, spot, Token::Skipped, left));
         }
         if let Some(left) = after_number(text.unread()) {
             return Ok(take_first(text, taker, spot, Token::Skipped, left));
@@ -280,6 +276,14 @@ pub fn run<X: Text, T: Taker>(text: &mut X, taker: &mut T, limit: usize) -> Resu
     let mut at = 0usize;
     let mut white = true;
     loop {
+        let here = Spot {
+            place,
+            at,
+            most: limit - at,
+        };
+        let (after, passed) = pass_idle(text, &*taker, here, white);
+        place = after;
+        at += passed;
         let spot = Spot {
             place,
             at,

@@ -214,4 +214,9 @@ impl<'a, A: Allocator> Taker for Reader<'a, A> {
         }
         taken
     }
+
+    #[inline(always)]
+    fn is_passing(&self) -> bool {
+        self.moving
+    }
 }

@@ -57,7 +57,7 @@ pub int_lt-false : (a b : ℤ) → b ≤ℤ a → int_lt a b ≡ false
 int_lt-false a b h = grind (arith, ints)
 
 -- some move has the greatest worth
-find_greatest : (f : MoveParts → ℤ) (m : MoveParts) (ms : List MoveParts) → (b : MoveParts) × (find (λ n. int_eq (f n) (greatest (map f (m ∷ ms)))) (m ∷ ms) ≡ Some b)
+pub find_greatest : (f : MoveParts → ℤ) (m : MoveParts) (ms : List MoveParts) → (b : MoveParts) × (find (λ n. int_eq (f n) (greatest (map f (m ∷ ms)))) (m ∷ ms) ≡ Some b)
 find_greatest f m ms =
     let r = greatest (map f (m ∷ ms)) in
     ⊎_elim

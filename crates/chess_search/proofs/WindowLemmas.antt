@@ -48,7 +48,7 @@ pub moves_left : (moves : List MoveParts) → nat_lt 0 (length moves) ≡ true �
 moves_left moves some = grind (arith, some)
 
 -- where play goes on
-going : (claims : Bool) (line : Line) (distance : ℕ) → 0 < length (legal_moves (last line)) → counts_drawn claims line ≡ false → ended claims line distance ≡ None
+pub going : (claims : Bool) (line : Line) (distance : ℕ) → 0 < length (legal_moves (last line)) → counts_drawn claims line ≡ false → ended claims line distance ≡ None
 going claims line distance some playing = unfold ended in rw (some_move (legal_moves (last line)) some, playing) refl
 
 pub value-leaf : (claims : Bool) (line : Line) (distance : ℕ) → 0 < length (legal_moves (last line)) → counts_drawn claims line ≡ false → value claims 0 line distance ≡ evaluation_for (last line)

@@ -3,3 +3,4 @@
 mod best;
 mod plain;
 mod random;
+mod replies;

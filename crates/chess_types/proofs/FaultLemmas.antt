@@ -1,9 +1,7 @@
--- Tests of the cells are tests of their board, and what they find wrong; fields without a fault make a setup.
-use Rattle.std.proofs.Common.{◌≡◌, ℕ, suc, ◌+◌, ◌<◌, ◌≤◌, nat_le, Bool, true, ◌&&◌, ◌||◌, add-zero, arith, List, [], ◌∷◌, length, get_or, Option, None, refl, sym, ◌∙◌, ap}
+-- Tests of the squares of the men are tests of their board, and what they find wrong; fields without a fault make a setup.
+use Rattle.std.proofs.Common.{◌≡◌, ℕ, ◌+◌, ◌<◌, ◌≤◌, nat_le, Bool, true, ◌&&◌, ◌||◌, arith, List, length, Option, None, refl, sym, ◌∙◌, ap}
 use Rattle.std.specs.Prelude.{count_by}
-use Rattle.std.specs.List.{range_with_len, list_any, enumerate_from}
 use Rattle.std.proofs.lemmas.Bool.{and_parts, leb-true}
-use Rattle.std.specs.FinMap.{get}
 use Rattle.chess_types.specs.declared.board.man.Colour.{Colour}
 use Rattle.chess_types.specs.declared.board.man.Colour.TheVariants.{White, Black}
 use Rattle.chess_types.specs.declared.board.man.Man.{Man}
@@ -11,7 +9,6 @@ use Rattle.chess_types.specs.board.Squares.{squares}
 use Rattle.chess_types.specs.board.Board.{man_at}
 use Rattle.chess_types.specs.board.Cells.{board_of}
 use Rattle.chess_types.specs.board.Men.{holds_pawn, is_of, men_of}
-use Rattle.chess_types.proofs.CellLemmas.{get-board_of}
 use Rattle.chess_types.proofs.MenLemmas.{count_squares-board_of}
 use Rattle.chess_types.specs.board.Faults.{has_one_king_each, is_edge, has_pawn_on_edge, has_at_most_16_each, men_fault, is_home, are_home, is_explained_if, fields_fault, with_cell}
 use Rattle.chess_types.specs.declared.board.faults.PositionFault.{PositionFault}
@@ -24,28 +21,69 @@ use Rattle.chess_types.specs.board.Men.{kings_of}
 use Rattle.chess_types.specs.board.Squares.{rank_of}
 use Rattle.chess_types.specs.board.Position.{IsSetup, is_explained, holds, PositionParts, man_on}
 use Rattle.chess_types.proofs.CellLemmas.{board_of-set, board_of-set_none}
-use Rattle.chess_types.proofs.Runs.{list_any_from}
+use Rattle.chess_types.proofs.Runs.{list_any_at, list_any_from}
 use Rattle.chess_types.proofs.SameLemmas.{is_man_is}
 use Rattle.std.proofs.Common.{◌==◌, not, cond, false, Some, set}
-use Rattle.std.proofs.lemmas.Bool.{eqb-true, true≢false, false_from_ne_true}
+use Rattle.std.proofs.Common.{ltb, inl, inr}
+use Rattle.std.proofs.lemmas.Bool.{and_from, cases_Bool, eqb-true, lt-ltb, true≢false, false_from_ne_true}
+use Rattle.std.proofs.lemmas.Cmp.{nat_cmp_total}
+use Rattle.std.specs.Ordering.{nat_cmp}
+use Rattle.std.specs.FinSet.{FinSet, contains, intersection, union, contains-intersection, contains-union}
+use Rattle.chess_types.specs.board.Men.{count_squares, is_pawn, same_kind}
+use Rattle.chess_types.specs.declared.board.man.Kind.{Kind}
+use Rattle.chess_types.specs.declared.board.man.Kind.TheVariants.{Pawn}
+use Rattle.chess_types.specs.steps.KeptSets.{Gathers, holds_kind}
 use Rattle.std.proofs.lemmas.Bool.Decides.{nat_tests}
 
--- a test of each square and what stands on it
-list_any-enumerate : (test : ℕ → Option Man → Bool) (f : ℕ → Option Man) (from : ℕ) (cells : List (Option Man)) → ((k : ℕ) → k < length cells → f (from + k) ≡ get_or cells k None) →
-    list_any (λ s. test s (f s)) (range_with_len from (length cells)) ≡ list_any (λ p. test p.0 p.1) (enumerate_from from cells)
-list_any-enumerate test f from [] same = refl
-list_any-enumerate test f from (cell ∷ cells) same =
-    let head : f from ≡ cell = rw add-zero at (same 0 (omega arith)) in
-    let later : (k : ℕ) → k < length cells → f (from + 1 + k) ≡ get_or cells k None = λ k within. ap f (omega arith) ∙ same (suc k) (omega arith) in
-    let tail = list_any-enumerate test f (from + 1) cells later in
-    (λ i. test from (head i) || tail i)
+-- as many squares as a set has pass its test
+pub count_gathered : (board : Board) (test : Option Man → Bool) (set : FinSet nat_cmp) → Gathers set test (man_at board) →
+    count_by (contains set) squares ≡ count_squares test board
+unfolding count_squares
+count_gathered board test set are = λ i. count_by (λ s. are s i) squares
 
-pub has_pawn_on_edge-board_of : (cells : List (Option Man)) → length cells ≡ 64 →
-    has_pawn_on_edge (man_at (board_of cells)) ≡ list_any (λ p. is_edge p.0 && holds_pawn p.1) (enumerate_from 0 cells)
+-- a pawn on rank 1 or 8 is in both sets
+edge_is : (a b : Bool) (at : ℕ) → (ltb at 64 && a || ltb at 64 && b) ≡ (ltb at 64 && (a || b))
+edge_is a b at = elim (ltb at 64) as (λ t. (t && a || t && b) ≡ (t && (a || b))) [ true ↦ refl | false ↦ refl ]
+
+pawn_is : (o : Option Man) → holds_kind Pawn o ≡ holds_pawn o
+pawn_is None = refl
+pawn_is (Some man) = by_kind man.kind
+  where
+    by_kind : (kind : Kind) → same_kind kind Pawn ≡ is_pawn kind
+    by_kind Pawn = refl
+    by_kind _ = refl
+
+on_edge : (man_on : Men) (pawns first last : FinSet nat_cmp) → Gathers pawns (holds_kind Pawn) man_on →
+    ((s : ℕ) → contains first s ≡ (ltb s 64 && (rank_of s == 0))) → ((s : ℕ) → contains last s ≡ (ltb s 64 && (rank_of s == 7))) →
+    (s : ℕ) → contains (intersection pawns (union first last)) s ≡ (holds_pawn (man_on s) && (ltb s 64 && is_edge s))
+on_edge man_on pawns first last are ones eights s =
+    contains-intersection nat_cmp_total pawns (union first last) s
+    ∙ (λ i. (are s ∙ pawn_is (man_on s)) i && (contains-union nat_cmp_total first last s ∙ (λ j. ones s j || eights s j) ∙ edge_is (rank_of s == 0) (rank_of s == 7) s) i)
+
+pub pawn_on_edge : (man_on : Men) (pawns first last : FinSet nat_cmp) → Gathers pawns (holds_kind Pawn) man_on →
+    ((s : ℕ) → contains first s ≡ (ltb s 64 && (rank_of s == 0))) → ((s : ℕ) → contains last s ≡ (ltb s 64 && (rank_of s == 7))) →
+    (set : FinSet nat_cmp) → set ≡ intersection pawns (union first last) → (at : ℕ) → at < 64 → contains set at ≡ true → true ≡ has_pawn_on_edge man_on
 unfolding squares
-has_pawn_on_edge-board_of cells len =
-    ap (λ n. list_any (λ s. is_edge s && holds_pawn (get (board_of cells) s)) (range_with_len 0 n)) (sym len)
-    ∙ list_any-enumerate (λ s cell. is_edge s && holds_pawn cell) (get (board_of cells)) 0 cells (λ k within. ap (get (board_of cells)) (omega arith) ∙ get-board_of cells k)
+pawn_on_edge man_on pawns first last are ones eights set is at inside held =
+    let both : (holds_pawn (man_on at) ≡ true) × ((ltb at 64 && is_edge at) ≡ true) =
+    and_parts _ _ (sym (ap (λ x. contains x at) is ∙ on_edge man_on pawns first last are ones eights at) ∙ held) in
+    let edge : (ltb at 64 ≡ true) × (is_edge at ≡ true) = and_parts _ _ both.1 in
+    sym (list_any_from (λ s. is_edge s && holds_pawn (man_on s)) 0 64 at (omega arith) inside (and_from _ _ edge.1 both.0))
+
+pub no_pawn_on_edge : (man_on : Men) (pawns first last : FinSet nat_cmp) → Gathers pawns (holds_kind Pawn) man_on →
+    ((s : ℕ) → contains first s ≡ (ltb s 64 && (rank_of s == 0))) → ((s : ℕ) → contains last s ≡ (ltb s 64 && (rank_of s == 7))) →
+    (set : FinSet nat_cmp) → set ≡ intersection pawns (union first last) → ((s : ℕ) → contains set s ≡ false) → false ≡ has_pawn_on_edge man_on
+unfolding squares
+no_pawn_on_edge man_on pawns first last are ones eights set is none =
+    elim (cases_Bool (has_pawn_on_edge man_on)) [
+      | inr e ↦ sym e
+      | inl h ↦
+          let (s, low, high, e) : (s : ℕ) × (0 ≤ s) × (s < 0 + 64) × ((is_edge s && holds_pawn (man_on s)) ≡ true) =
+          list_any_at (λ s. is_edge s && holds_pawn (man_on s)) 0 64 h in
+          let both : (is_edge s ≡ true) × (holds_pawn (man_on s) ≡ true) = and_parts _ _ e in
+          absurd (true≢false (sym (and_from _ _ both.1 (and_from _ _ (lt-ltb s 64 (omega arith)) both.0))
+          ∙ sym (ap (λ x. contains x s) is ∙ on_edge man_on pawns first last are ones eights s) ∙ none s))
+    ]
 
 pub few_of_each : (cells : List (Option Man)) → length cells ≡ 64 → has_at_most_16_each (board_of cells) ≡ true → (colour : Colour) → count_by (is_of colour) cells ≤ 16
 few_of_each cells len few White =

@@ -18,11 +18,11 @@ mod square_set;
 mod start;
 
 pub use axis::Axis;
-pub use cell::{holds_pawn, is_king_of, is_man, is_of, men_in};
+pub use cell::{holds_pawn, is_king_of, is_man, is_of};
 pub use content::Content;
 pub use diagram::Diagram;
 pub use draft::Draft;
-pub use faults::{PositionFault, is_explained, is_home, men_fault};
+pub use faults::{PositionFault, is_explained, is_home};
 pub use kept_move::KeptMove;
 pub use man::{Colour, Kind, Man};
 pub use moves::{Move, NotAMove};

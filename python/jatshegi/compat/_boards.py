@@ -9,10 +9,13 @@ from .._checks import colour_of, square_of, text_of, whole
 from .._errors import InvalidFenError
 from .._status import Outcome, Termination
 from . import _epd
+from ._aside import attackers_among
 from ._fields import IN_CHECK, NO_POSITION, ROOKS, TWO_KINGS, Fields, fields_of, fields_of_board
 from ._men import BaseBoard, counts, pawns_on_last_ranks
 from ._names import (
     BB_ALL,
+    BB_DARK_SQUARES,
+    BB_LIGHT_SQUARES,
     BB_SQUARES,
     BLACK,
     COLORS,
@@ -30,7 +33,9 @@ from ._names import (
     SquareSet,
     Status,
     popcount,
+    ray,
     refuse,
+    scan_forward,
 )
 from ._order import LegalMoveGenerator, MoveStack
 from ._past import Chapter, Past, last_moves, moves_of, positions_of, shortened
@@ -40,8 +45,6 @@ _Of = TypeVar("_Of", bound="Board")
 
 # The rook's square of each square to which a king castles.
 _CASTLES = {6: 7, 2: 0, 62: 63, 58: 56}
-# The ends of a game that a player claims.
-_CLAIMS = (Termination.FIFTY_MOVES, Termination.THREEFOLD_REPETITION)
 # What `parse_san` of python-chess reads as the null move.
 _NULLS = ("--", "Z0", "0000", "@@@@")
 
@@ -650,16 +653,17 @@ class Board(BaseBoard):
     # ---- how the game ends
 
     def status(self) -> Status:
-        """What is wrong with the position. `IMPOSSIBLE_CHECK` is never found."""
+        """The faults of the position, as flags."""
         men, found = self._men_now(), Status.VALID
         if not men:
             found |= Status.EMPTY
         for color, name in ((WHITE, "WHITE"), (BLACK, "BLACK")):
             kings, pawns, all_men = counts(men, color)
             found |= Status.VALID if kings else Status[f"NO_{name}_KING"]
-            found |= Status.TOO_MANY_KINGS if kings > 1 else Status.VALID
             found |= Status[f"TOO_MANY_{name}_PAWNS"] if pawns > 8 else Status.VALID
             found |= Status[f"TOO_MANY_{name}_PIECES"] if all_men > 16 else Status.VALID
+        if popcount(self.kings) > 2:
+            found |= Status.TOO_MANY_KINGS
         if pawns_on_last_ranks(men):
             found |= Status.PAWNS_ON_BACKRANK
         if self.castling_rights != self.clean_castling_rights():
@@ -668,9 +672,29 @@ class Board(BaseBoard):
             found |= Status.OPPOSITE_CHECK
         if self._refusal is None and self.ep_square != self._it.ep_square:
             found |= Status.INVALID_EP_SQUARE
-        if self._refusal is None and popcount(self.checkers_mask()) > 2:
+        try:
+            return found | self._faults_of_checks()
+        except ValueError:
+            # (the library can't say who gives check among pieces that are no position)
+            return found
+
+    # The faults of the checks. The last move can't have given more than two, or two in line with the king. After a pawn's double step the pawn gives check,
+    # or one piece whose line it has opened.
+    def _faults_of_checks(self) -> Status:
+        checkers, king = self.checkers_mask(), self.king(self.turn)
+        count, found = popcount(checkers), Status.VALID
+        if not count or king is None:
+            return found
+        if count > 2:
             found |= Status.TOO_MANY_CHECKERS
-        return found
+        target = self._it.ep_square if self._refusal is None and self._it.ep_square == self.ep_square else None
+        if target is None:
+            is_impossible = count > 2 or count == 2 and bool(ray(*scan_forward(checkers)) >> king & 1)
+        else:
+            before, pushed, begun = dict(self._men_now()), target ^ 8, target ^ 24
+            before[begun] = before.pop(pushed)
+            is_impossible = count > 1 or checkers != BB_SQUARES[pushed] and bool(attackers_among(before, not self.turn, king) & ~BB_SQUARES[begun])
+        return found | Status.IMPOSSIBLE_CHECK if is_impossible else found
 
     def is_valid(self) -> bool:
         """Whether nothing is wrong with the position."""
@@ -678,9 +702,13 @@ class Board(BaseBoard):
 
     def outcome(self, *, claim_draw: bool = False) -> Optional[Outcome]:
         """How the game ended, or None if it goes on. With `claim_draw` it ends if the side to move may claim a draw."""
-        found = self._game.outcome(claim_draw=claim_draw)
-        if self._past and (found is None or found.termination in _CLAIMS):
-            found = self._repeated(claim_draw) or found
+        found = self._game.outcome()
+        if found is None and self._past and self.is_repetition(5):
+            found = Outcome(Termination.FIVEFOLD_REPETITION, None)
+        if found is None and claim_draw:
+            if self.can_claim_fifty_moves():
+                return Outcome(Termination.FIFTY_MOVES, None)
+            return Outcome(Termination.THREEFOLD_REPETITION, None) if self.can_claim_threefold_repetition() else None
         if found is None or found.winner is not None:
             return found
         # (python-chess asks in this order, if several hold)
@@ -690,14 +718,6 @@ class Board(BaseBoard):
             return Outcome(Termination.STALEMATE, None)
         return Outcome(Termination.SEVENTYFIVE_MOVES, None) if self.is_seventyfive_moves() else found
 
-    # The end by a position that has come up before the last null move, too.
-    def _repeated(self, claim_draw: bool) -> Optional[Outcome]:
-        if self.is_repetition(5):
-            return Outcome(Termination.FIVEFOLD_REPETITION, None)
-        if not claim_draw or self._game.can_claim_fifty_moves() or not self.can_claim_threefold_repetition():
-            return None
-        return Outcome(Termination.THREEFOLD_REPETITION, None)
-
     def result(self, *, claim_draw: bool = False) -> str:
         """'1-0', '0-1', '1/2-1/2', or '*'."""
         found = self.outcome(claim_draw=claim_draw)
@@ -705,7 +725,7 @@ class Board(BaseBoard):
 
     def is_game_over(self, *, claim_draw: bool = False) -> bool:
         """Whether the game has ended."""
-        return self.outcome(claim_draw=claim_draw) is not None if self._past else self._game.is_game_over(claim_draw=claim_draw)
+        return self.outcome(claim_draw=claim_draw) is not None if self._past or claim_draw else self._game.is_game_over()
 
     def is_checkmate(self) -> bool:
         """Whether the side to move is mated."""
@@ -716,8 +736,18 @@ class Board(BaseBoard):
         return self._game.is_stalemate()
 
     def has_insufficient_material(self, color: Color) -> bool:
-        """Whether that side can never mate: it has only its king, or nobody can mate."""
-        return self._game.has_insufficient_material(color)
+        """Whether the side's pieces can't mate, as python-chess counts them.
+
+        A lone king can't. A king with one knight can't if the other side has only queens beside its king. A king with bishops can't if no pawn or knight is left
+        and all bishops stand on squares of one colour. Raises `ValueError` for another colour."""
+        mine, theirs = self.occupied_co[colour_of(color)], self.occupied_co[not color]
+        if mine & (self.pawns | self.rooks | self.queens):
+            return False
+        if mine & self.knights:
+            return popcount(mine) <= 2 and not theirs & ~(self.kings | self.queens)
+        if mine & self.bishops:
+            return not self.pawns | self.knights and (not self.bishops & BB_DARK_SQUARES or not self.bishops & BB_LIGHT_SQUARES)
+        return True
 
     def is_insufficient_material(self) -> bool:
         """Whether neither side can mate."""
@@ -742,28 +772,33 @@ class Board(BaseBoard):
         key = self._game.epd()
         return self._it.repetitions() + sum(it == key for it in positions_of(self._past)) >= count
 
-    # Whether a legal move makes a position that has come up twice.
-    def _can_repeat(self) -> bool:
-        for move in self.legal_moves:
+    # Whether something holds after one of the moves.
+    def _after(self, moves: Iterable[Move], holds: Callable[[], bool]) -> bool:
+        for move in moves:
             self.push(move)
-            found = self.is_repetition(3)
-            self.pop()
-            if found:
-                return True
+            try:
+                if holds():
+                    return True
+            finally:
+                self.pop()
         return False
 
     def can_claim_draw(self) -> bool:
         """Whether the side to move may claim a draw by 50 moves or by repetition."""
-        return self._game.can_claim_draw() or bool(self._past) and self.can_claim_threefold_repetition()
+        return self.can_claim_fifty_moves() or self.can_claim_threefold_repetition()
 
     def can_claim_fifty_moves(self) -> bool:
-        """Whether the side to move may claim a draw by 50 moves."""
-        return self._game.can_claim_fifty_moves()
+        """Whether 50 moves of each side have passed without a capture or a pawn's move, or will have after a legal move."""
+        if self.halfmove_clock < 99:
+            return False
+        return self.is_fifty_moves() or self._after([move for move in self.legal_moves if not self.is_zeroing(move)], self.is_fifty_moves)
 
     def can_claim_threefold_repetition(self) -> bool:
-        """Whether the side to move may claim a draw by repetition."""
-        found = self._game.can_claim_threefold_repetition()
-        return found or bool(self._past) and (self.is_repetition(3) or self._can_repeat())
+        """Whether the position has come up three times, or a legal move makes one that has then."""
+        # (a position comes up for the third time after eight plies without a capture or a pawn's move)
+        if not self._past and self._game.halfmove_clock < 7:
+            return False
+        return self.is_repetition(3) or self._after(self.legal_moves, self.is_repetition)
 
     def is_variant_end(self) -> bool:
         """False: there are no variants."""

@@ -119,8 +119,15 @@ class BestMove(NamedTuple):
     ponder: Optional[Move]
 
 
-def _ours(info: InfoDict) -> InfoDict:
-    """The information with moves of this module."""
+def _ours(info: InfoDict, wanted: Info) -> InfoDict:
+    """The information of the kinds that are wanted, with moves of this module."""
+    if not wanted:
+        return {}
+    if not wanted & INFO_SCORE:
+        for name in ("score", "lowerbound", "upperbound"):
+            info.pop(name, None)  # type: ignore[misc]  # (each is a key that need not be there)
+    if not wanted & INFO_PV:
+        info.pop("pv", None)
     if "pv" in info:
         info["pv"] = [OURS[move] for move in info["pv"]]
     if "currmove" in info:
@@ -131,8 +138,8 @@ def _ours(info: InfoDict) -> InfoDict:
 class SimpleAnalysisResult:
     """What an engine says of a position while it searches. Use it with `with`, or call `stop`."""
 
-    def __init__(self, engine: SimpleEngine, board: Board, lines: Iterator[List[str]]) -> None:
-        self._engine, self._board, self._lines = engine, board, lines
+    def __init__(self, engine: SimpleEngine, board: Board, lines: Iterator[List[str]], wanted: Info) -> None:
+        self._engine, self._board, self._lines, self._wanted = engine, board, lines, wanted
         self._best: Optional[BestMove] = None
         #: What was said last, of each line.
         self.multipv: List[InfoDict] = [{}]
@@ -150,11 +157,13 @@ class SimpleAnalysisResult:
                 if words[0] == "bestmove":
                     self._ended(words)
                 elif words[0] == "info":
-                    return self._said(parts_of(words[1:]))
+                    info = self._said(parts_of(words[1:]))
+                    if info:
+                        return info
             return None
 
     def _said(self, parts: Dict[str, List[str]]) -> InfoDict:
-        info = _ours(self._engine._info(self._board._game, parts))
+        info = _ours(self._engine._info(self._board._game, parts), self._wanted)
         place = info.get("multipv", 1) - 1
         while len(self.multipv) <= place:
             self.multipv.append({})
@@ -221,6 +230,41 @@ class SimpleEngine(_engine.SimpleEngine):
 
     # The analysis that goes on.
     _running: Optional[SimpleAnalysisResult] = None
+
+    def __init__(self, command: _Command, *, timeout: Optional[float] = 10.0, **popen_args: Any) -> None:
+        # Of the options that a search has set for itself, the values before it.
+        self._lent: Dict[str, str] = {}
+        super().__init__(command, timeout=timeout, **popen_args)
+
+    def configure(self, options: _Options) -> None:
+        """Sets options by their names. Raises `EngineError` for one that the engine doesn't have or that calls set, and `ValueError` for a value that the option
+        doesn't take; none is set then."""
+        with self._lock:
+            super().configure(options)
+            names = [name.lower() for name in options]
+            self._lent = {name: text for name, text in self._lent.items() if name.lower() not in names}
+
+    # Sets options for a search, and puts those of the last search back.
+    def _lend(self, options: _Options) -> None:
+        self._settle()
+        told = dict(self._option(name, value) for name, value in options.items())
+        for name, text in self._lent.items():
+            if name not in told:
+                self._set(name, text)
+        self._lent = {name: text for name, text in self._lent.items() if name in told}
+        for name, text in told.items():
+            before = self._told.get(name) or self._begun(name)
+            if before is not None:
+                self._lent.setdefault(name, before)
+            self._set(name, text)
+
+    # The text of an option's default; None if it has none, as a button.
+    def _begun(self, name: str) -> Optional[str]:
+        option = next(it for it in self.options.values() if it.name == name)
+        try:
+            return None if option.default is None else option.text_of(option.default)
+        except ValueError:
+            return None
 
     @classmethod
     def popen_uci(cls, command: _Command, *, timeout: Optional[float] = 10.0, debug: Optional[bool] = None, setpgrp: bool = False, **popen_args: Any) -> SimpleEngine:
@@ -292,10 +336,12 @@ class SimpleEngine(_engine.SimpleEngine):
         opponent: Optional[Opponent] = None,
     ) -> PlayResult:
         """The move that the engine plays. Raises `EngineError` for a move that isn't legal."""
-        self.send_opponent_information(opponent=opponent)
-        found = super().play(board._game, limit, game=game, info=info, ponder=ponder, root_moves=root_moves, options=options)
+        with self._lock:
+            self.send_opponent_information(opponent=opponent)
+            self._lend(options)
+            found = super().play(board._game, limit, game=game, ponder=ponder, root_moves=root_moves)
         move, awaited = (None if it is None else OURS[it] for it in (found.move, found.ponder))
-        return PlayResult(move, awaited, _ours(found.info))
+        return PlayResult(move, awaited, _ours(found.info, info))
 
     @overload  # type: ignore[override]  # (python-chess has other parameters)
     def analyse(
@@ -317,8 +363,10 @@ class SimpleEngine(_engine.SimpleEngine):
         options: _Options = {},
     ) -> Union[InfoDict, List[InfoDict]]:
         """What the engine says of the position, with `multipv` of that number of lines."""
-        found = super().analyse(board._game, limit, multipv=1 if multipv is None else multipv, game=game, info=info, root_moves=root_moves, options=options)
-        infos = [_ours(it) for it in found]
+        with self._lock:
+            self._lend(options)
+            found = super().analyse(board._game, limit, multipv=1 if multipv is None else multipv, game=game, root_moves=root_moves)
+        infos = [_ours(it, info) for it in found]
         return infos[0] if multipv is None else infos
 
     def analysis(
@@ -335,7 +383,7 @@ class SimpleEngine(_engine.SimpleEngine):
         """What the engine says of the position while it searches; without a limit until it is stopped. Another call of the engine ends it."""
         with self._lock:
             self._begin_game(game)
-            self.configure(options)
+            self._lend(options)
             goes = ["go", *(["infinite"] if limit is None else limit.words()), *_engine._root(board._game, root_moves)]
             if "MultiPV" in self.options:
                 self._set("MultiPV", str(multipv or 1))
@@ -344,7 +392,7 @@ class SimpleEngine(_engine.SimpleEngine):
             self._send(_engine._position(board._game))
             self._is_owed = True
             self._send(" ".join(goes))
-            self._running = SimpleAnalysisResult(self, board.copy(), iter(self._until("bestmove", None)))
+            self._running = SimpleAnalysisResult(self, board.copy(), iter(self._until("bestmove", None)), info)
             return self._running
 
 

@@ -9,6 +9,7 @@ from typing import Container, Iterator, NamedTuple, Optional, Type, TypeVar, Uni
 
 from .. import _library as c
 from .. import polyglot as _polyglot
+from .._checks import whole
 from ._boards import Board
 from ._names import OURS, Move
 
@@ -79,29 +80,38 @@ class MemoryMappedReader:
             low, high = (middle + 1, high) if self[middle].key < key else (low, middle)
         return low
 
-    def find_all(self, board: Board, *, minimum_weight: int = 1, exclude_moves: Container[Move] = ()) -> Iterator[Entry]:
-        """The position's entries whose moves are legal, of at least that weight, without those of some moves."""
-        book, key, first, count = self._book, zobrist_hash(board), c_size_t(), c_size_t()
+    def find_all(self, board: Union[Board, int], *, minimum_weight: int = 1, exclude_moves: Container[Move] = ()) -> Iterator[Entry]:
+        """The entries of a position, of at least that weight, without those of some moves.
+
+        If you ask by a board, only entries with legal moves come. If you ask by a key, a number of 64 bits, every entry comes as the file has it, and castling is
+        the king's move to its rook. Raises `ValueError` for a number out of range."""
+        book, first, count = self._book, c_size_t(), c_size_t()
+        key = whole(board, "a key is a number of 64 bits", 0, (1 << 64) - 1) if isinstance(board, int) else zobrist_hash(board)
         c.lib.jatshegi_book_find(book._bytes, book._size, key, byref(first), byref(count))
         entries = []
         for place in range(first.value, first.value + count.value):
-            found = board._game._booked(book._bytes, book._size, place)
-            if found is not None and found[1] >= minimum_weight and found[0] not in exclude_moves:
-                entries.append(_plain(book, place)._replace(move=OURS[found[0]]))
+            entry = _plain(book, place)
+            if not isinstance(board, int):
+                found = board._game._booked(book._bytes, book._size, place)
+                if found is None:
+                    continue
+                entry = entry._replace(move=OURS[found[0]])
+            if entry.weight >= minimum_weight and entry.move not in exclude_moves:
+                entries.append(entry)
         yield from entries
 
-    def get(self, board: Board, default: Optional[Entry] = None, *, minimum_weight: int = 1, exclude_moves: Container[Move] = ()) -> Optional[Entry]:
+    def get(self, board: Union[Board, int], default: Optional[Entry] = None, *, minimum_weight: int = 1, exclude_moves: Container[Move] = ()) -> Optional[Entry]:
         """The entry of the greatest weight, or the default."""
         return max(self.find_all(board, minimum_weight=minimum_weight, exclude_moves=exclude_moves), key=lambda entry: entry.weight, default=default)
 
-    def find(self, board: Board, *, minimum_weight: int = 1, exclude_moves: Container[Move] = ()) -> Entry:
+    def find(self, board: Union[Board, int], *, minimum_weight: int = 1, exclude_moves: Container[Move] = ()) -> Entry:
         """The entry of the greatest weight. Raises `IndexError` if there is none."""
         entry = self.get(board, minimum_weight=minimum_weight, exclude_moves=exclude_moves)
         if entry is None:
             raise IndexError("the book has no move for this position")
         return entry
 
-    def choice(self, board: Board, *, minimum_weight: int = 1, exclude_moves: Container[Move] = (), random: Optional[_random.Random] = None) -> Entry:
+    def choice(self, board: Union[Board, int], *, minimum_weight: int = 1, exclude_moves: Container[Move] = (), random: Optional[_random.Random] = None) -> Entry:
         """One of the entries, each as likely. Raises `IndexError` if there is none."""
         chosen = None
         for place, entry in enumerate(self.find_all(board, minimum_weight=minimum_weight, exclude_moves=exclude_moves)):
@@ -111,7 +121,7 @@ class MemoryMappedReader:
             raise IndexError("the book has no move for this position")
         return chosen
 
-    def weighted_choice(self, board: Board, *, exclude_moves: Container[Move] = (), random: Optional[_random.Random] = None) -> Entry:
+    def weighted_choice(self, board: Union[Board, int], *, exclude_moves: Container[Move] = (), random: Optional[_random.Random] = None) -> Entry:
         """One of the entries, each as likely as its weight says. Raises `IndexError` if there is none."""
         entries = list(self.find_all(board, exclude_moves=exclude_moves))
         if not entries:

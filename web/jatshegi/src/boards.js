@@ -22,7 +22,8 @@ const ENGINE = 16 << 20;
 /** How many boards have sessions at once. */
 export const MOST_LIVE = 128;
 
-const FRESH = encode('*');
+/** The text of a game that has just begun. */
+export const FRESH = encode('*');
 
 let memory = null;
 let scratch = null;
@@ -197,6 +198,12 @@ export const begin = (kept, text) => {
   const found = settle(kept, { text, path: '-' });
   if (found.status === OK) Object.assign(kept, { version: kept.version + 1, spelt: null });
   return found;
+};
+
+/** The board has the game of a text that the module can read, with the cursor at its root; it is read at the first use. */
+export const lay = (kept, text) => {
+  release(kept);
+  Object.assign(kept, { away: { text, path: '-' }, heap: kept.least, weight: 0, stays: false, version: kept.version + 1 });
 };
 
 /** What `action` answers of the board's session, to which it adds no more than `cost`. Where there is no memory for it nothing has happened, and it is done again with more. */

@@ -4,11 +4,16 @@ import { ChessError } from './errors.js';
 const encoder = new TextEncoder();
 const strict = new TextDecoder('utf-8', { fatal: true, ignoreBOM: true });
 
-/** The bytes of a text. Half of a surrogate pair is no text. */
-export const encode = (text) => {
+/** Refuses what is no text, as half of a surrogate pair. */
+export const checkText = (text) => {
   if (typeof text !== 'string') throw new TypeError(`a text is wanted, not ${typeof text}`);
   const half = text.search(/\p{Surrogate}/u);
   if (half >= 0) throw new ChessError('Text', `half of a surrogate pair at ${half}: no UTF-8 spells it`);
+};
+
+/** The bytes of a text. */
+export const encode = (text) => {
+  checkText(text);
   return encoder.encode(text);
 };
 

@@ -1,16 +1,26 @@
 // A board with its game: a tree of moves with a cursor. Each answer is the module's, a line to its board or a call.
-import { bytesOf, decode, encode, shown, toBytes } from './bytes.js';
+import { bytesOf, checkText, decode, encode, shown } from './bytes.js';
 import { ChessError, noMemory, refusal, strange } from './errors.js';
-import { begin, beside, costOf, faultOf, keep, line, on, placeIn, readers, theMemory } from './boards.js';
-import { tagsOf, treeOf, Node } from './export.js';
+import { FRESH, begin, beside, costOf, faultOf, keep, lay, line, on, placeIn, readers, theMemory } from './boards.js';
+import { laidOut, tagsOf, treeOf, Node } from './export.js';
+import { entries } from './games.js';
 import { ARGUMENT, AT_ROOT, BAD_NAME, BAD_VALUE, MEMORY, NONE, OK, OWN_TAG } from './memory.js';
 import { menOf, pieceOf, placedOf } from './move.js';
-import { NAMES, colorOf, lineOf, movesOf, squareOf, tried } from './questions.js';
+import { NAMES, colorOf, lineOf, meant, meantStrictly, movesOf, squareOf, tried } from './questions.js';
 import { search } from './search.js';
 
 export const DEFAULT_POSITION = 'rnbqkbnr/pppppppp/8/8/8/8/PPPPPPPP/RNBQKBNR w KQkq - 0 1';
 const EMPTY = '8/8/8/8/8/8/8/8 w - - 0 1';
 const MARKERS = ['*', '1-0', '0-1', '1/2-1/2'];
+const MOST_DEEP = 16;
+// The signs after a move, by their annotation numbers from 1 on.
+const SUFFIXES = ['!', '?', '!!', '??', '!?', '?!'];
+const isSuffix = (nag) => nag >= 1 && nag <= SUFFIXES.length;
+const suffixOf = ({ nags }) => SUFFIXES[nags.find(isSuffix) - 1];
+// How programs write that nobody moves.
+const NULL_MOVES = [null, '--', '0000', '@@@@', 'Z0'];
+
+export const SUFFIX_LIST = ['!', '?', '!!', '!?', '?!', '??'];
 
 const only = (options, ...names) => {
   for (const name of Object.keys(options ?? {})) {
@@ -28,15 +38,76 @@ export const validateFen = (fen) => {
   return { ok, code: error.code, error: error.message };
 };
 
-const spelt = (fen) => {
-  const fields = fen.split(' ');
-  return { fen, fields, men: menOf(fields[0]) };
+// The six fields of a FEN that is only well formed; null where it isn't.
+const formed = (fen) => {
+  const fields = fen.trim().split(/\s+/);
+  const [placed, turn, rights, target, ...counters] = fields.length === 4 ? [...fields, '0', '1'] : fields;
+  const isPlaced = /^[1-8pnbrqk]+(\/[1-8pnbrqk]+){7}$/i.test(placed) && placed.split('/').every((row) => [...row].reduce((all, it) => all + (Number(it) || 1), 0) === 8);
+  const isFormed = isPlaced && /^[wb]$/.test(turn) && /^(-|K?Q?k?q?)$/.test(rights) && /^(-|[a-h][36])$/.test(target) && counters.length === 2 && counters.every((it) => /^\d{1,5}$/.test(it));
+  return isFormed ? [placed, turn, rights, target, ...counters].join(' ') : null;
+};
+
+// What a FEN says: its fields, the letters of the men by their squares, and the men as they are answered, each once it is asked for.
+class Spelt {
+  constructor(fen) {
+    Object.assign(this, { fen, kept: null, letters: null, pieces: null, checks: null });
+  }
+
+  get fields() {
+    return (this.kept ??= this.fen.split(' '));
+  }
+
+  get men() {
+    return (this.letters ??= menOf(this.fields[0]));
+  }
+
+  // The men in a list, that of a1 first.
+  get list() {
+    return (this.pieces ??= NAMES.map((name) => pieceOf(this.men.get(name))));
+  }
+}
+
+// Refuses what isn't one game that can be read.
+const checkOne = (bytes) => {
+  const [at, length] = theMemory().put(bytes).map(Number);
+  const reader = readers();
+  const one = reader.game(at, length);
+  if (one.status === MEMORY) throw noMemory();
+  if (one.status !== OK) throw faultOf(one.status, placeIn(bytes, one.used));
+  const next = reader.game(at + one.used, length - one.used);
+  if (next.status === MEMORY) throw noMemory();
+  if (next.status === OK) throw new ChessError('Many', 'more than one game: read them by games() or readGames()', { place: placeIn(bytes, one.used) });
+  if (next.status !== NONE) throw faultOf(next.status, placeIn(bytes, one.used + next.used));
+};
+
+// The export form of the one game of a text, which is saved if it has to be.
+const saved = (bytes, onRepair) => {
+  const all = entries(bytes, true);
+  const { value: first } = all.next();
+  const { value: second } = all.next();
+  all.return();
+  if (!first) throw faultOf(NONE);
+  if (first.fault) throw first.fault;
+  if (second) throw new ChessError('Many', 'more than one game: read them by games() or readGames()', { place: placeIn(bytes, first.game.length) });
+  if (first.repairs.length) onRepair(first.repairs);
+  return first.game.bytes;
+};
+
+// A text whose lines are ended otherwise, with line feeds.
+const withLines = (text, newlineChar) => {
+  encode(text);
+  try {
+    return text.replace(new RegExp(newlineChar, 'g'), '\n');
+  } catch (error) {
+    if (!(error instanceof SyntaxError)) throw error;
+    throw new ChessError('Option', `no regular expression: ${newlineChar}`);
+  }
 };
 
 export class Chess {
   // (no private fields: what wraps objects in proxies, as frameworks for pages do, can't call methods that read those)
   constructor(fen = DEFAULT_POSITION, options = {}) {
-    only(options);
+    const { skipValidation } = only(options, 'skipValidation');
     let kept = null;
     // A function, since such proxies leave functions as they are. It owns the board, which goes once no object has it.
     this._own = () => kept;
@@ -44,7 +115,7 @@ export class Chess {
     // A placement that is no position yet, as `clear` and `put` leave it: `{fen, error}`.
     this._draft = null;
     this._tree = { version: -1 };
-    if (fen !== DEFAULT_POSITION) this.load(fen);
+    if (fen !== DEFAULT_POSITION) this.load(fen, { skipValidation });
   }
 
   // ---- Lines of the board.
@@ -82,14 +153,19 @@ export class Chess {
 
   // ---- Positions.
 
-  fen() {
-    return this._spelt().fen;
+  /** The position's FEN. With `target: 'legal'`, or `forceEnpassantSquare: false`, it has an en passant target only where a legal move captures there. */
+  fen(options = {}) {
+    const { target, forceEnpassantSquare } = only(options, 'target', 'forceEnpassantSquare');
+    if (![undefined, 'always', 'legal'].includes(target)) throw new ChessError('Option', `no such target: ${String(target)}`);
+    const now = this._spelt();
+    if (this._draft || !(target === 'legal' || (target === undefined && forceEnpassantSquare === false))) return now.fen;
+    return [on(this._position(), (session) => session.epd()), ...now.fields.slice(4)].join(' ');
   }
 
   // The position's FEN with its fields and men, `{fen, fields, men}`, which stays until the position is another.
   _spelt() {
-    if (this._draft) return spelt(this._draft.fen);
-    return (this._own().spelt ??= spelt(this._ask('fen')));
+    if (this._draft) return new Spelt(this._draft.fen);
+    return (this._own().spelt ??= new Spelt(this._ask('fen')));
   }
 
   // The board has the game of a text; where that is none, nothing has changed.
@@ -98,25 +174,39 @@ export class Chess {
     if (status !== OK) throw faultOf(status, placeIn(text, used));
   }
 
-  _begin(fen, keepsHeaders) {
-    const { ok, answer } = tried(fen);
-    if (!ok) throw refusal(answer, fen);
-    const text = toBytes(beside().pgn());
-    if (keepsHeaders) line(this._own(), `set ${fen}`);
-    else this._take(text);
-    this._own().version++;
+  _begin(fen, keepsHeaders, takesDrafts = false) {
+    const { ok, answer, fen: own } = tried(fen);
+    if (!ok) {
+      const draft = takesDrafts ? formed(fen) : null;
+      if (!draft) throw refusal(answer, fen);
+      this.reset({ preserveHeaders: keepsHeaders });
+      this._draft = { fen: draft, error: refusal(answer, fen) };
+      return;
+    }
+    if (keepsHeaders) {
+      line(this._own(), `set ${fen}`);
+      this._own().version++;
+    } else {
+      lay(this._own(), own === DEFAULT_POSITION ? FRESH : `[SetUp "1"]\n[FEN "${own}"]\n\n*`);
+      this._own().spelt = new Spelt(own);
+    }
     this._draft = null;
   }
 
-  /** Begins a new game with the position of a FEN; where it is none, nothing has changed. */
+  /** Begins a new game with the position of a FEN; where it is none, nothing has changed. With `skipValidation` one that is only well formed is a draft. */
   load(fen, options = {}) {
-    const { preserveHeaders } = only(options, 'preserveHeaders');
-    encode(fen);
-    this._begin(fen, preserveHeaders);
+    const { preserveHeaders, skipValidation } = only(options, 'preserveHeaders', 'skipValidation');
+    checkText(fen);
+    this._begin(fen, preserveHeaders, Boolean(skipValidation));
   }
 
   reset(options = {}) {
     this.load(DEFAULT_POSITION, options);
+  }
+
+  /** The position's key in Polyglot's opening books, 16 hexadecimal digits. */
+  hash() {
+    return on(this._position(), (session) => session.key()).toString(16).padStart(16, '0');
   }
 
   turn() {
@@ -129,7 +219,8 @@ export class Chess {
 
   get(square) {
     squareOf(square);
-    return pieceOf(this._spelt().men.get(square));
+    const there = this._spelt().list[8 * (square.charCodeAt(1) - 49) + square.charCodeAt(0) - 97];
+    return there && { type: there.type, color: there.color };
   }
 
   /** Ranks 8 to 1, in each files a to h: `{square, type, color}` or null. */
@@ -163,10 +254,9 @@ export class Chess {
     return { k: rights.includes(spelt[0]), q: rights.includes(spelt[1]) };
   }
 
-  // ---- Placing men. What is no position yet is a draft: each call that needs a position throws why it is none.
+  // ---- Placing men: a new game begins with the changed position. What is no position yet is a draft: each call that needs a position throws why it is none.
 
   _edit(change) {
-    if (!this._draft && this.root().children.length) throw new ChessError('HasMoves', 'men are placed before the first move: load a FEN, or clear, first');
     const now = this._spelt();
     const [fields, men] = [[...now.fields], new Map(now.men)];
     change(men, fields);
@@ -182,10 +272,12 @@ export class Chess {
     this._draft = { fen: EMPTY, error: refusal('refused 3 Kings', EMPTY) };
   }
 
+  /** Whether the piece was put there: a second king of a colour isn't. */
   put({ type, color }, square) {
     squareOf(square);
     if (typeof type !== 'string' || !/^[pnbrqkPNBRQK]$/.test(type)) throw new ChessError('Piece', `no piece: ${String(type)}`);
     const letter = colorOf(color) === 'w' ? type.toUpperCase() : type.toLowerCase();
+    if (/k/i.test(letter) && [...this._spelt().men].some(([at, it]) => it === letter && at !== square)) return false;
     this._edit((men) => men.set(square, letter));
     return true;
   }
@@ -232,40 +324,51 @@ export class Chess {
     return on(this._position(), (session) => session.moves());
   }
 
+  /** The number of the series of `depth` legal moves, 0 to 16. */
+  perft(depth) {
+    if (!Number.isInteger(depth) || depth < 0 || depth > MOST_DEEP) throw new ChessError('Argument', `no depth: ${String(depth)}`);
+    const fen = (this._position(), this.fen());
+    beside().set(fen);
+    return beside().perft(depth);
+  }
+
   // The legal move that a text or an object names, in long algebraic notation; else why it names none.
-  _named(move) {
+  _named(move, strict = false) {
+    if (NULL_MOVES.includes(move)) throw new ChessError('NullMove', 'a side has to move');
     let texts = [move];
     if (typeof move === 'object' && move) {
       const pair = `${squareOf(move.from)}${squareOf(move.to)}`;
       // (a promotion that no move has is passed over, as chess.js does)
       texts = move.promotion === undefined ? [pair] : [pair + move.promotion, pair];
     }
+    const means = strict && texts[0] === move ? meantStrictly : meant;
     // (of two spellings the first says why)
     let why = '';
     for (const text of texts) {
       encode(text);
-      const found = on(this._position(), (session) => ({ lan: session.read(text), why: session.why }));
-      if (found.lan !== null) return found.lan;
+      const found = on(this._position(), (session) => means(session, text));
+      if (found.lan) return found.lan;
       why ||= found.why;
     }
     throw refusal(why, `${texts[0]} in ${this.fen()}`);
   }
 
-  /** Makes the move: along a node that has it, else as a further variation. */
+  /** Makes the move: along a node that has it, else as a further variation. A text that names no move may be another spelling of one, but with `strict`. */
   move(move, options = {}) {
-    only(options, 'strict');
-    const lan = this._named(move);
+    const { strict } = only(options, 'strict');
+    const lan = this._named(move, Boolean(strict));
     const [made] = movesOf(this.fen(), [lan]);
     this._change(`play ${lan}`);
     return made;
   }
 
-  /** Whether a text or an object names a legal move. */
-  isLegal(move) {
+  /** Whether a text or an object names a legal move, as `move` reads it. */
+  isLegal(move, options = {}) {
+    const { strict } = only(options, 'strict');
     try {
-      return Boolean(this._named(move));
+      return Boolean(this._named(move, Boolean(strict)));
     } catch (error) {
-      if (error instanceof ChessError && ['Form', 'Illegal', 'Ambiguous', 'Square'].includes(error.code)) return false;
+      if (error instanceof ChessError && ['Form', 'Illegal', 'Ambiguous', 'Square', 'NullMove'].includes(error.code)) return false;
       throw error;
     }
   }
@@ -322,13 +425,19 @@ export class Chess {
     return on(this._position(), (session) => session.repetitions());
   }
 
+  // The squares of the men that give check, which stay until the position is another.
+  _checks() {
+    const kept = this._position();
+    return (this._spelt().checks ??= on(kept, (session) => session.checks()));
+  }
+
   /** The squares of the men that give check. */
   checks() {
-    return on(this._position(), (session) => session.checks());
+    return [...this._checks()];
   }
 
   isCheck() {
-    return this.checks().length > 0;
+    return this._checks().length > 0;
   }
 
   inCheck() {
@@ -337,6 +446,11 @@ export class Chess {
 
   isCheckmate() {
     return this.status() === 'mate';
+  }
+
+  /** The side that has mated, or null. */
+  winner() {
+    return this.isCheckmate() ? (this.turn() === 'w' ? 'b' : 'w') : null;
   }
 
   isStalemate() {
@@ -504,25 +618,79 @@ export class Chess {
     return comment;
   }
 
-  /** The comments of the line to the cursor, `{fen, comment}`. */
+  deleteComment() {
+    return this.removeComment();
+  }
+
+  /** The comments and signs of the line to the cursor, `{fen, comment, suffixAnnotation}`, each where it is. */
   getComments() {
     const nodes = [this.root(), ...this.node().line()];
-    return nodes.filter((it) => it.comment).map((it) => ({ fen: this.fenAt(it), comment: it.comment }));
+    return nodes.filter((it) => it.comment || suffixOf(it)).map((it) => ({
+      fen: this.fenAt(it), ...(it.comment && { comment: it.comment }), ...(suffixOf(it) && { suffixAnnotation: suffixOf(it) }),
+    }));
   }
 
   removeComments() {
-    const all = this.getComments();
+    const all = this.getComments().filter(({ comment }) => comment).map(({ fen, comment }) => ({ fen, comment }));
     const here = this.node();
     for (const it of [this.root(), ...here.line()].filter(({ comment }) => comment)) this._at(it.path, () => this._change('comment'));
     return all;
   }
 
+  deleteComments() {
+    return this.removeComments();
+  }
+
+  // The node of the line to the cursor whose position has a FEN, with or without its en passant target; the last such. Without a FEN the cursor's.
+  _nodeOf(fen) {
+    if (fen === undefined) return this.node();
+    encode(fen);
+    const plain = (it) => it.split(' ').map((field, i) => (i === 3 ? '-' : field)).join(' ');
+    const isHere = (it) => it === fen || plain(it) === fen;
+    const line = this.node().line();
+    const afters = this.history({ verbose: true }).map(({ after }) => after);
+    const at = afters.findLastIndex(isHere);
+    if (at >= 0) return line[at];
+    if (isHere(this._startFen())) return this.root();
+    throw new ChessError('NoSuch', `the line to the cursor has no such position: ${fen}`);
+  }
+
+  // Gives a node these annotation numbers for those it has.
+  _mark({ path }, nags) {
+    this._at(path, () => {
+      this.clearNags();
+      for (const it of nags) this.addNag(it);
+    });
+  }
+
+  /** The sign after a move, one of `SUFFIX_LIST`: of the cursor's, or of the position with a FEN in the line to it. */
+  getSuffixAnnotation(fen) {
+    return suffixOf(this._nodeOf(fen));
+  }
+
+  /** Sets the sign after a move, in the place of another; other annotation numbers stay. */
+  setSuffixAnnotation(suffix, fen) {
+    if (!SUFFIXES.includes(suffix)) throw new ChessError('Suffix', `no sign after a move: ${String(suffix)}`);
+    const node = this._nodeOf(fen);
+    this._mark(node, [SUFFIXES.indexOf(suffix) + 1, ...node.nags.filter((it) => !isSuffix(it))]);
+  }
+
+  /** Takes the sign out, and answers it. */
+  removeSuffixAnnotation(fen) {
+    const node = this._nodeOf(fen);
+    const suffix = suffixOf(node);
+    if (suffix) this._mark(node, node.nags.filter((it) => !isSuffix(it)));
+    return suffix;
+  }
+
   // ---- The game as a text.
 
-  /** The whole game in export form, with its variations. */
+  /** The whole game in export form, with its variations; with `maxWidth` its moves are in lines of so many characters where words allow, 0 is one line. */
   pgn(options = {}) {
-    const { newline = '\n' } = only(options, 'newline');
-    const text = decode(this.pgnBytes());
+    const { newline = '\n', maxWidth } = only(options, 'newline', 'maxWidth');
+    if (maxWidth !== undefined && !(Number.isInteger(maxWidth) && maxWidth >= 0)) throw new ChessError('Option', `no width: ${String(maxWidth)}`);
+    const whole = decode(this.pgnBytes());
+    const text = maxWidth === undefined ? whole : laidOut(whole, maxWidth);
     return newline === '\n' ? text : text.replaceAll('\n', newline);
   }
 
@@ -531,20 +699,15 @@ export class Chess {
     return on(this._position(), (session) => session.pgnBytes());
   }
 
-  /** The game of a text comes on the board, the cursor at the end of its main line. Where the text isn't one game, nothing has changed. */
+  /**
+   * The game of a text comes on the board, the cursor at the end of its main line. Where the text isn't one game, nothing has changed. With `onRepair` a game that
+   * can't be read is saved where it can be, and it has the repairs before the board has the game. `newlineChar` is a regular expression of what ends a line.
+   */
   loadPgn(text, options = {}) {
-    only(options);
-    const bytes = bytesOf(text);
-    const [at, length] = theMemory().put(bytes).map(Number);
-    const reader = readers();
-    const one = reader.game(at, length);
-    if (one.status === MEMORY) throw noMemory();
-    if (one.status !== OK) throw faultOf(one.status, placeIn(bytes, one.used));
-    const next = reader.game(at + one.used, length - one.used);
-    if (next.status === MEMORY) throw noMemory();
-    if (next.status === OK) throw new ChessError('Many', 'more than one game: read them by games() or readGames()', { place: placeIn(bytes, one.used) });
-    if (next.status !== NONE) throw faultOf(next.status, placeIn(bytes, one.used + next.used));
-    this._take(bytes);
+    const { onRepair, strict, newlineChar } = only(options, 'onRepair', 'strict', 'newlineChar');
+    if (onRepair && strict) throw new ChessError('Option', 'a text that is repaired is not read strictly');
+    const bytes = bytesOf(newlineChar === undefined ? text : withLines(text, newlineChar));
+    this._take(onRepair ? saved(bytes, onRepair) : (checkOne(bytes), bytes));
     this._draft = null;
     this.toEnd();
   }

@@ -1,5 +1,5 @@
 // All of the package without the module: `start(bytes)` begins it.
-export { Chess, DEFAULT_POSITION, validateFen } from './chess.js';
+export { Chess, DEFAULT_POSITION, SUFFIX_LIST, validateFen } from './chess.js';
 export { ChessError } from './errors.js';
 export { Node } from './export.js';
 export { Game, games, readGames } from './games.js';

@@ -1,6 +1,24 @@
 // The export form of a game, as the module writes it, cut into its tags and its tree.
 import { shown } from './bytes.js';
 
+// In lines of at most `width` characters, as far as words allow; 0 is one line. No line begins with `%`, which would have the line passed over.
+const wrapped = (words, width) => {
+  const lines = [];
+  for (const word of words) {
+    const line = lines.at(-1);
+    const isFitting = width === 0 || word.startsWith('%') || line?.length + 1 + word.length <= width;
+    if (line !== undefined && isFitting) lines[lines.length - 1] = `${line} ${word}`;
+    else lines.push(word);
+  }
+  return lines.join('\n');
+};
+
+/** An export form whose movetext is in lines of that width. */
+export const laidOut = (text, width) => {
+  const from = text.indexOf('\n\n') + 2;
+  return `${text.slice(0, from)}${wrapped(text.slice(from).trim().split(/[ \n]+/), width)}\n\n`;
+};
+
 /** A node of a game as it was when it was asked for: the root, or a move. */
 export class Node {
   constructor(parent, index, san) {

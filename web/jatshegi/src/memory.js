@@ -358,6 +358,13 @@ export class Session {
     return this.asked('jatshegi_board_write', [this.memory.move(lan)]);
   }
 
+  /** Begins with the position of a FEN; whether it spells one. */
+  sets(fen) {
+    const status = this.memory.exports.jatshegi_board_set(this.slot, ...this.memory.put(fen));
+    if (status === MEMORY) throw noMemory();
+    return status === OK;
+  }
+
   /** Begins with the position of a FEN; one that is refused (a counter past the last) is refused as by the board's line. */
   set(fen) {
     const status = this.memory.exports.jatshegi_board_set(this.slot, ...this.memory.put(fen));
@@ -375,14 +382,39 @@ export class Session {
     this.#done('jatshegi_board_play', memory.exports.jatshegi_board_play(this.slot, memory.move(lan), memory.cell(FLAG)));
   }
 
-  /** The position's FEN after a legal move, which is taken back. */
-  after(lan) {
+  // What `asks` answers after a legal move, which is taken back.
+  #with(lan, asks) {
     const { memory } = this;
     this.play(lan);
     const added = memory.bytes[memory.cells + FLAG];
-    const fen = this.fen();
+    const answer = asks();
     this.#done('jatshegi_board_undo', memory.exports.jatshegi_board_undo(this.slot, added));
-    return fen;
+    return answer;
+  }
+
+  /** The position's FEN after a legal move, which is taken back. */
+  after(lan) {
+    return this.#with(lan, () => this.fen());
+  }
+
+  /** The number of the series of `depth` legal moves. */
+  perft(depth) {
+    if (depth === 0) return 1;
+    const lans = this.moves();
+    if (depth === 1) return lans.length;
+    return lans.reduce((count, lan) => count + this.#with(lan, () => this.perft(depth - 1)), 0);
+  }
+
+  /** The four fields that identify the position by the Laws. */
+  epd() {
+    return this.asked('jatshegi_board_epd', []);
+  }
+
+  /** The position's key in Polyglot's opening books. */
+  key() {
+    const { memory } = this;
+    this.#done('jatshegi_board_key', memory.exports.jatshegi_board_key(this.slot, memory.cell(USED)));
+    return memory.view.getBigUint64(memory.cells + USED, true);
   }
 
   /** The squares of the men of a colour, 0 or 1, that attack a square. */

@@ -79,6 +79,11 @@ export class Move {
     return this.flags === 'b';
   }
 
+  /** No move here is null. */
+  isNullMove() {
+    return false;
+  }
+
   toString() {
     return this.san;
   }

@@ -43,7 +43,7 @@ test('a FEN that is none changes nothing', () => {
   refuses('Placement', () => chess.load('8/8/44/8/8/8/8/8 w - - 0 1'));
   refuses('InCheck', () => chess.load('4k3/8/8/8/8/8/8/4RK2 w - - 0 1'));
   refuses('Fields', () => new Chess(''));
-  refuses('Option', () => new Chess(undefined, { skipValidation: true }));
+  refuses('Option', () => new Chess(undefined, { validation: true }));
   assert.throws(() => chess.load(null), TypeError);
   assert.throws(() => validateFen(5), TypeError);
   assert.deepEqual(chess.history(), ['e4']);
@@ -65,7 +65,7 @@ test('moves', () => {
   assert.equal(chess.move(move).san, 'e4');
   assert.equal(chess.move({ from: 'c7', to: 'c5' }).san, 'c5');
   assert.equal(chess.move('g1f3').san, 'Nf3');
-  assert.ok(chess.isLegal('d6') && !chess.isLegal('Ke4') && !chess.isLegal('nf3') && !chess.isLegal({ from: 'x', to: 'y' }));
+  assert.ok(chess.isLegal('d6') && !chess.isLegal('Ke4') && !chess.isLegal('x') && !chess.isLegal({ from: 'x', to: 'y' }));
   assert.equal(chess.undo().lan, 'g1f3');
   assert.deepEqual(chess.history(), ['e4', 'c5']);
   assert.deepEqual(chess.history({ verbose: true }).map((it) => it.lan), ['e2e4', 'c7c5']);
@@ -87,17 +87,18 @@ test('a move that is none changes nothing', () => {
   const chess = new Chess('4k3/8/8/8/8/2N5/8/4K1N1 w - - 0 1');
   refuses('Ambiguous', () => chess.move('Ne2'));
   refuses('Illegal', () => chess.move('Ke3'));
-  for (const text of ['', ' ', 'e9', 'Nge2 e4', 'nge2', '--', 'Nge2\n']) refuses('Form', () => chess.move(text));
+  for (const text of ['', ' ', 'e9', 'Nge2 e4', 'e\n']) refuses('Form', () => chess.move(text));
+  refuses('NullMove', () => chess.move(null));
   refuses('Text', () => chess.move('\ud800'));
   refuses('Square', () => chess.move({ from: 'e1', to: 'e' }));
   refuses('Illegal', () => new Chess('4k3/P7/8/8/8/8/8/4K3 w - - 0 1').move({ from: 'a7', to: 'a8' }));
-  for (const it of [null, undefined, 5]) assert.throws(() => chess.move(it), TypeError);
+  for (const it of [undefined, 5]) assert.throws(() => chess.move(it), TypeError);
   refuses('Square', () => chess.moves({ square: 'i1' }));
   refuses('Square', () => chess.get('e0'));
   refuses('Square', () => chess.squareColor());
   refuses('Color', () => chess.counts('white'));
   refuses('Color', () => chess.isAttacked('e4'));
-  refuses('Option', () => chess.pgn({ maxWidth: 5 }));
+  refuses('Option', () => chess.pgn({ width: 5 }));
   assert.equal(chess.history().length, 0);
 });
 
@@ -129,7 +130,6 @@ test('attacks', () => {
 
 test('men are placed', () => {
   const chess = played('e4');
-  refuses('HasMoves', () => chess.put({ type: 'q', color: 'w' }, 'd4'));
   chess.clear();
   assert.equal(chess.fen(), '8/8/8/8/8/8/8/8 w - - 0 1');
   refuses('Kings', () => chess.moves());
@@ -188,6 +188,7 @@ test('the tree', () => {
   assert.equal(chess.removeComment(), 'open game');
   assert.equal(chess.getComment(), undefined);
   assert.deepEqual(chess.removeComments().map((it) => it.comment), ['the start']);
+  chess.clearNags();
   assert.deepEqual(chess.getComments(), []);
   refuses('Argument', () => chess.addNag(256));
 });
@@ -204,7 +205,7 @@ test('games as texts', () => {
   refuses('NoGame', () => chess.loadPgn(' \n'));
   refuses('Many', () => chess.loadPgn('1. e4 * 1. d4 *'));
   refuses('Truncated', () => chess.loadPgn('1. e4 {'));
-  refuses('Option', () => chess.loadPgn('*', { newlineChar: 'x' }));
+  refuses('Option', () => chess.loadPgn('*', { newline: 'x' }));
   assert.throws(() => chess.loadPgn('{é}\n1. e4 e5 2. Ke3 *'), (error) => {
     assert.deepEqual([error.code, error.number, error.place], ['Move', 3, { byte: 17, line: 2, column: 13 }]);
     return true;
@@ -379,12 +380,46 @@ test('a board is used through a proxy, and by a copy of its object', () => {
   assert.deepEqual(deep(game).moves(), ['e4']);
 });
 
+test('a board that begins from a FEN is the board that a line begins', () => {
+  const fens = [
+    DEFAULT_POSITION, '4k3/8/8/8/8/8/8/R3K3 w Q - 5 9', '4k3/8/8/8/8/8/8/4K3 w KQ - 03 0', '4k3/8/8/8/8/8/8/4K3  b -  -', 'r3k2r/p1ppqpb1/bn2pnp1/3PN3/1p2P3/2N2Q1p/PPPBBPPP/R3K2R w KQkq - 99999 99999',
+    '8/8/8/K1pP3r/8/8/8/4k3 w - c6 0 2', 'rnbqkbnr/pppppppp/8/8/8/8/PPPPPPPP/RNBQKBNR b KQkq - 0 1', '7k/5Q2/6K1/8/8/8/8/8 b - - 0 1',
+  ];
+  for (const fen of fens) {
+    const wanted = new Chess();
+    wanted.line(`set ${fen}`);
+    const used = played('e4', 'e5');
+    used.setHeader('White', 'a');
+    used.load(fen);
+    for (const chess of [new Chess(fen), used]) {
+      const told = (it) => [it.fen(), it.pgn(), it.history(), it.checks(), it.isCheck(), it.status(), it.root().children.length, it.getHeaders(), it.clone().pgn()];
+      assert.deepEqual(told(chess), told(wanted), fen);
+      const [first] = chess.lans();
+      if (first) assert.deepEqual([chess.move(first).after, chess.undo().lan, chess.fen()], [wanted.move(first).after, first, (wanted.undo(), wanted.fen())]);
+    }
+  }
+  // (more than have memory of their own, each used once they are all there)
+  const many = Array.from({ length: 400 }, (_, i) => new Chess(`4k3/8/8/8/8/8/8/R3K3 w Q - ${i % 100} ${i + 1}`));
+  many.forEach((it, i) => assert.deepEqual([it.fen(), it.move('Ra8+').after], [`4k3/8/8/8/8/8/8/R3K3 w Q - ${i % 100} ${i + 1}`, `R3k3/8/8/8/8/8/8/4K3 b - - ${(i % 100) + 1} ${i + 1}`]));
+  // (a refused one leaves the game, also where none is there yet)
+  const chess = played('e4');
+  for (const fen of ['8/8/8/8/8/8/8/8 w - - 0 1', 'x x x x 0 1', '4k3/8/8/8/8/8/8/4RK2 w - - 0 1', `${DEFAULT_POSITION}00000`, '4k3/8/8/8/8/8/8/4K3 w - - 0 1 x']) {
+    assert.throws(() => chess.load(fen), ChessError);
+    assert.throws(() => new Chess(fen), ChessError);
+  }
+  assert.deepEqual(chess.history(), ['e4']);
+  // (what is answered isn't what is known)
+  const check = new Chess('R3k3/8/8/8/8/8/8/4K3 b - - 0 1');
+  check.checks().length = 0;
+  assert.deepEqual(check.checks(), ['a8']);
+});
+
 test('what is known of a position goes with it', () => {
   const chess = new Chess();
-  const seen = () => [chess.fen(), chess.turn(), chess.moveNumber(), chess.get('e2'), chess.get('e4'), chess.getCastlingRights('w').k];
+  const seen = () => [chess.isCheck(), chess.fen(), chess.turn(), chess.moveNumber(), chess.get('e2'), chess.get('e4'), chess.getCastlingRights('w').k];
   const fresh = () => {
     const other = new Chess(chess.fen());
-    return [other.fen(), other.turn(), other.moveNumber(), other.get('e2'), other.get('e4'), other.getCastlingRights('w').k];
+    return [other.isCheck(), other.fen(), other.turn(), other.moveNumber(), other.get('e2'), other.get('e4'), other.getCastlingRights('w').k];
   };
   const steps = [
     () => chess.move('e4'), () => chess.move('e5'), () => chess.back(), () => chess.toStart(), () => chess.forward(), () => chess.toEnd(), () => chess.goto('0'), () => chess.undo(), () => chess.line('play d4'),

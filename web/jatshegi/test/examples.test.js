@@ -6,7 +6,8 @@ import test from 'node:test';
 import { fileURLToPath } from 'node:url';
 
 const folder = fileURLToPath(new URL('../examples/', import.meta.url));
-const names = readdirSync(folder);
+// (that of a board is tried in browsers: tests/test_javascript.py)
+const names = readdirSync(folder).filter((it) => it.endsWith('.mjs'));
 
 test('there are five', () => assert.equal(names.length, 5));
 

@@ -1,9 +1,20 @@
 // The types, by a program that the TypeScript compiler has to take, and calls that it has to refuse.
-import { Chess, ChessError, Game, Move, Node, games, readGames, validateFen, type Fault, type Square } from 'jatshegi';
+import { Chess, ChessError, Game, Move, Node, SUFFIX_LIST, games, readGames, validateFen, type Color, type Fault, type Square, type Suffix } from 'jatshegi';
 import { start } from 'jatshegi/core';
 import { Chess as Inline } from 'jatshegi/inline';
+import { JatshegiBoard } from 'jatshegi/board';
+const board: JatshegiBoard = document.createElement('jatshegi-board');
+board.moves = new Inline().lans();
+board.addEventListener('move', ({ detail }) => detail.lan.length);
+board.shapes = [...board.shapes, 'Ge2e4'];
 const inline: Chess = new Inline();
 inline.turn();
+const signs: Suffix[] = [...SUFFIX_LIST];
+inline.setSuffixAnnotation(signs[0]);
+inline.loadPgn('*', { onRepair: (repairs) => repairs[0].name.length, newlineChar: 'x' });
+const winner: Color | null = inline.winner();
+inline.perft(1).toFixed(winner === 'w' ? 0 : 1);
+inline.fen({ target: 'legal' }).length + inline.hash().length + inline.pgn({ maxWidth: 0 }).length;
 const chess: Chess = new Chess();
 const sans: string[] = chess.moves();
 const verbose: Move[] = chess.moves({ verbose: true, square: 'e2', piece: 'p' });
@@ -20,6 +31,8 @@ const answer = validateFen('x');
 if (!answer.ok) answer.code;
 // @ts-expect-error
 chess.get(5);
+// @ts-expect-error
+chess.setSuffixAnnotation('!!!');
 // @ts-expect-error
 chess.moves({ verbose: 1 });
 try { chess.load('x', { preserveHeaders: true }); } catch (error) { if (error instanceof ChessError) error.place?.column; }

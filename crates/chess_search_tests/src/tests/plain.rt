@@ -72,7 +72,12 @@ fn plain_worth<A: Allocator>(
 
 /// The line's value by plain minimax.
 #[cycle(plain_value)]
-fn plain_value<A: Allocator>(line: &mut Line<'_, A>, depth: u8, distance: u8, claims: bool) -> i32
+pub(crate) fn plain_value<A: Allocator>(
+    line: &mut Line<'_, A>,
+    depth: u8,
+    distance: u8,
+    claims: bool,
+) -> i32
     requires room { line.old.looked + depth ≤ 16 }
     requires distance { distance + depth ≤ 16 }
     ensures in_range { IsValue result }

@@ -44,10 +44,3 @@ pub fn holds_pawn(cell: Option<Man>) -> bool
         Some(man) => man.kind == Kind::Pawn,
     }
 }
-
-/// How many of the cells hold a man of the colour.
-pub fn men_in(cells: &[Option<Man>], colour: Colour) -> usize
-    ensures { result ≡ count_by (is_of colour) cells.now }
-{
-    cells.iter().filter(|cell| is_of(colour, **cell)).count()
-}

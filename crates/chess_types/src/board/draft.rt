@@ -7,7 +7,7 @@ ghost use Rattle.chess_types.specs.board.Board.{man_at};
 ghost use Rattle.chess_types.specs.board.Position.{holds};
 ghost use Rattle.chess_types.specs.board.Faults.{is_home as is_home_of, are_home as are_home_of, is_explained_if, fields_fault as fields_fault_of, setup_fault, tested, with_cell};
 
-use super::faults::{PositionFault, is_explained, is_home, men_fault};
+use super::faults::{PositionFault, is_explained, is_home};
 use super::man::{Colour, Man};
 use super::placement::Placement;
 use super::position::{Position, Rights, Setup, Wing};
@@ -171,10 +171,10 @@ impl Draft {
     pub fn setup(&self) -> Result<Setup, PositionFault>
         ensures { result ≡ tested (setup_fault self.now) self.now }
     {
-        if let Some(fault) = men_fault(&self.men) {
-            return Err(fault);
-        }
-        let placement = Placement::from_cells(self.men);
+        let placement = match Placement::try_from_cells(&self.men) {
+            Ok(placement) => placement,
+            Err(fault) => return Err(fault),
+        };
         let other = fields_fault(&placement, self.side, self.rights, self.target, self.number);
         if let Some(fault) = other {
             return Err(fault);

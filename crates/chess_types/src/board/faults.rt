@@ -1,17 +1,19 @@
 //! Why six fields are no position, and the tests that find it.
 
-ghost use Rattle.std.specs.Prelude.{◌≡◌, count_by};
-ghost use Rattle.chess_types.specs.board.Board.{man_at};
-ghost use Rattle.chess_types.specs.board.Cells.{board_of};
-ghost use Rattle.chess_types.specs.board.Men.{is_king_of};
+ghost use Rattle.std.specs.Prelude.{◌≡◌};
+ghost use Rattle.chess_types.specs.board.Board.{Board, Men, man_at};
+ghost use Rattle.chess_types.specs.board.Men.{is_of, kings_of};
 ghost use Rattle.chess_types.specs.board.Position.{is_explained as is_explained_of};
-ghost use Rattle.chess_types.specs.board.Faults.{has_one_king_each, is_edge, has_pawn_on_edge, has_at_most_16_each, men_fault as men_fault_of, is_home as is_home_of};
+ghost use Rattle.chess_types.specs.board.Faults.{has_one_king_each, has_pawn_on_edge, has_at_most_16_each, men_fault as men_fault_of, is_home as is_home_of};
+ghost use Rattle.chess_types.specs.steps.KeptSets.{Gathers, SetsAreKept};
 
-use super::cell::{holds_pawn, is_king_of, is_man, men_in};
-use super::man::{Colour, Kind, Man};
+use super::cell::is_man;
+use super::kept::Kept;
+use super::man::{Colour, Kind};
 use super::placement::Placement;
 use super::position::Wing;
 use super::square::Square;
+use super::square_set::SquareSet;
 use thiserror::Error;
 
 /// Why six fields are no position. Where several faults apply, the first in this order is reported.
@@ -43,54 +45,55 @@ pub enum PositionFault {
 /// The most men of a colour (FIDE Laws 2.2).
 const MOST_MEN: usize = 16;
 
-fn kings(cells: &[Option<Man>], colour: Colour) -> usize
-    ensures { result ≡ count_by (is_king_of colour) cells.now }
+// The squares of a colour's men.
+fn men(kept: &Kept, colour: Colour) -> SquareSet
+    ensures { (man_on : Men) → SetsAreKept kept.now man_on → Gathers result (is_of colour) man_on }
 {
-    cells
-        .iter()
-        .filter(|cell| is_king_of(colour, **cell))
-        .count()
+    match colour {
+        Colour::White => kept.white,
+        Colour::Black => kept.black,
+    }
 }
 
-fn has_one_king_each(cells: &[Option<Man>; 64]) -> bool
-    ensures { result ≡ has_one_king_each (board_of cells.now) }
+fn kings(kept: &Kept, colour: Colour) -> usize
+    ensures { (board : Board) → SetsAreKept kept.now (man_at board) → result ≡ kings_of board colour }
 {
-    kings(cells, Colour::White) == 1 && kings(cells, Colour::Black) == 1
+    kept.kings.intersection(men(kept, colour)).len()
 }
 
-fn is_edge(square: usize) -> bool
-    ensures { result ≡ is_edge square }
+fn has_one_king_each(kept: &Kept) -> bool
+    ensures { (board : Board) → SetsAreKept kept.now (man_at board) → result ≡ has_one_king_each board }
 {
-    square / 8 == 0 || square / 8 == 7
+    kings(kept, Colour::White) == 1 && kings(kept, Colour::Black) == 1
 }
 
-fn has_pawn_on_edge(cells: &[Option<Man>; 64]) -> bool
-    ensures { result ≡ has_pawn_on_edge (man_at (board_of cells.now)) }
+fn has_pawn_on_edge(kept: &Kept) -> bool
+    ensures { (man_on : Men) → SetsAreKept kept.now man_on → result ≡ has_pawn_on_edge man_on }
 {
-    cells
-        .iter()
-        .enumerate()
-        .any(|(square, cell)| is_edge(square) && holds_pawn(*cell))
+    let edges = SquareSet::rank(0).union(SquareSet::rank(7));
+    match kept.pawns.intersection(edges).lowest() {
+        Some(_) => true,
+        None => false,
+    }
 }
 
-fn has_at_most_16_each(cells: &[Option<Man>; 64]) -> bool
-    ensures { result ≡ has_at_most_16_each (board_of cells.now) }
+fn has_at_most_16_each(kept: &Kept) -> bool
+    ensures { (board : Board) → SetsAreKept kept.now (man_at board) → result ≡ has_at_most_16_each board }
 {
-    men_in(cells, Colour::White) <= MOST_MEN && men_in(cells, Colour::Black) <= MOST_MEN
+    men(kept, Colour::White).len() <= MOST_MEN && men(kept, Colour::Black).len() <= MOST_MEN
 }
 
-/// The first thing wrong with the men on the 64 squares from a1 to h8: `Kings`, `PawnRank` or `TooManyMen`.
-#[tactic(auto, unfolding(crate::specs::board::Faults::men_fault))]
-pub fn men_fault(cells: &[Option<Man>; 64]) -> Option<PositionFault>
-    ensures { result ≡ men_fault_of (board_of cells.now) }
+/// The first thing wrong with the men whose squares are kept: `Kings`, `PawnRank` or `TooManyMen`.
+pub(super) fn men_fault(kept: &Kept) -> Option<PositionFault>
+    ensures { (board : Board) → SetsAreKept kept.now (man_at board) → result ≡ men_fault_of board }
 {
-    if !has_one_king_each(cells) {
+    if !has_one_king_each(kept) {
         return Some(PositionFault::Kings);
     }
-    if has_pawn_on_edge(cells) {
+    if has_pawn_on_edge(kept) {
         return Some(PositionFault::PawnRank);
     }
-    if !has_at_most_16_each(cells) {
+    if !has_at_most_16_each(kept) {
         return Some(PositionFault::TooManyMen);
     }
     None

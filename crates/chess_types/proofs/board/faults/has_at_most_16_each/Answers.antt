@@ -1,17 +1,22 @@
-use Rattle.std.proofs.Common.{arith}
+use Rattle.std.proofs.Common.{◌≡◌, ◌∙◌, arith}
 use Rattle.std.proofs.lemmas.Grind.{common_steps}
 use Rattle.chess_types.specs.declared.board.man.Colour.TheVariants.{White, Black}
-use Rattle.chess_types.specs.board.Men.{is_of}
-use Rattle.chess_types.proofs.MenLemmas.{count_squares-board_of}
+use Rattle.chess_types.specs.board.Board.{man_at}
+use Rattle.chess_types.specs.board.Men.{is_of, men_of}
+use Rattle.chess_types.proofs.FaultLemmas.{count_gathered}
 use Rattle.chess_types.proofs.board.faults.has_at_most_16_each.Goals as goal
 
-pub returns-then-men_in-le-MOST_MEN : goal.returns-then-men_in-le-MOST_MEN
-returns-then-men_in-le-MOST_MEN c =
-    let white = count_squares-board_of (is_of White) c.args.cells.now c.told-cells in
-    let black = count_squares-board_of (is_of Black) c.args.cells.now c.told-cells in
+pub returns-then-len-le-MOST_MEN : goal.returns-then-len-le-MOST_MEN
+returns-then-len-le-MOST_MEN c = λ board are.
+    let white : c.len.result ≡ men_of board White =
+    c.len.ensures.counted ∙ count_gathered board (is_of White) c.men.result (c.men.ensures (man_at board) are) in
+    let black : c.len-then-len-le-MOST_MEN.result ≡ men_of board Black =
+    c.len-then-len-le-MOST_MEN.ensures.counted
+    ∙ count_gathered board (is_of Black) c.men-then-len-le-MOST_MEN.result (c.men-then-len-le-MOST_MEN.ensures (man_at board) are) in
     grind (arith, common_steps, white, black)
 
-pub returns-else-men_in-le-MOST_MEN : goal.returns-else-men_in-le-MOST_MEN
-returns-else-men_in-le-MOST_MEN c =
-    let white = count_squares-board_of (is_of White) c.args.cells.now c.told-cells in
+pub returns-else-len-le-MOST_MEN : goal.returns-else-len-le-MOST_MEN
+returns-else-len-le-MOST_MEN c = λ board are.
+    let white : c.len.result ≡ men_of board White =
+    c.len.ensures.counted ∙ count_gathered board (is_of White) c.men.result (c.men.ensures (man_at board) are) in
     grind (arith, common_steps, white)

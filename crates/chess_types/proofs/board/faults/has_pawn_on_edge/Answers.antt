@@ -1,14 +1,15 @@
-use Rattle.std.proofs.Common.{ℕ, ◌∙◌, sym, Option, ◌&&◌, rules, tests}
-use Rattle.std.proofs.lemmas.Iterator.{YieldsList-from_slice}
-use Rattle.std.proofs.lemmas.Iterator.Consumers.{YieldsList-from_enumerate}
-use Rattle.std.proofs.lemmas.Iterator.Search.{any_from_yields_List}
-use Rattle.chess_types.specs.declared.board.man.Man.{Man}
-use Rattle.chess_types.specs.board.Men.{holds_pawn}
-use Rattle.chess_types.specs.board.Faults.{is_edge}
-use Rattle.chess_types.proofs.FaultLemmas.{has_pawn_on_edge-board_of}
+use Rattle.std.proofs.Common.{ap, ◌∙◌}
+use Rattle.std.specs.FinSet.{intersection}
+use Rattle.chess_types.proofs.FaultLemmas.{pawn_on_edge, no_pawn_on_edge}
 use Rattle.chess_types.proofs.board.faults.has_pawn_on_edge.Goals as goal
 
-pub returns : goal.returns
-returns c =
-    any_from_yields_List (λ (p : ℕ × Option Man). is_edge p.0 && holds_pawn p.1) _ _ c.any.result c.any.ensures.ran (YieldsList-from_enumerate (YieldsList-from_slice c.args.cells.now (cc)) (cc)) (λ x b q k. search (rules, tests))
-    ∙ sym (has_pawn_on_edge-board_of c.args.cells.now c.told-cells)
+pub returns-in-Some : goal.returns-in-Some
+returns-in-Some c = λ man_on are.
+    pawn_on_edge man_on c.args.kept.now.pawns c.rank.result c.rank-2.result are.pawns c.rank.ensures c.rank-2.ensures c.intersection.result
+    (c.intersection.ensures ∙ ap (λ edges. intersection c.args.kept.now.pawns edges) c.union-edges.ensures) c.in-Some.field-0
+    c.in-Some.ensures.found.on_board c.in-Some.ensures.found.held
+
+pub returns-in-None : goal.returns-in-None
+returns-in-None c = λ man_on are.
+    no_pawn_on_edge man_on c.args.kept.now.pawns c.rank.result c.rank-2.result are.pawns c.rank.ensures c.rank-2.ensures c.intersection.result
+    (c.intersection.ensures ∙ ap (λ edges. intersection c.args.kept.now.pawns edges) c.union-edges.ensures) c.in-None.ensures.none

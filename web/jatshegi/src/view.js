@@ -1,26 +1,23 @@
-// The board on the page: draws what the module answers, and turns mouse, touch and keys into a pair of squares.
-import { FILES, placed } from './fen.js';
+// A board in a document: draws a position, and turns mouse, touch and keys into a pair of squares. Which moves there are, it is told.
+import { man, named } from './men.js';
+import { FILES, placed } from './placement.js';
 
-const NAMES = { p: 'pawn', n: 'knight', b: 'bishop', r: 'rook', q: 'queen', k: 'king' };
 const SVG = 'http://www.w3.org/2000/svg';
-
-export const man = (letter) => {
-  const picture = document.createElementNS(SVG, 'svg');
-  picture.setAttribute('class', letter === letter.toUpperCase() ? 'man' : 'man black');
-  picture.setAttribute('aria-hidden', 'true');
-  const use = document.createElementNS(SVG, 'use');
-  use.setAttribute('href', `#${letter.toLowerCase()}`);
-  picture.append(use);
-  return picture;
-};
-
-export const named = (letter) => `${letter === letter.toUpperCase() ? 'white' : 'black'} ${NAMES[letter.toLowerCase()]}`;
+// The colours of arrows and circles, by their letters in PGN.
+const COLOURS = { G: 'green', R: 'red', Y: 'yellow', B: 'blue' };
 
 export class Board {
-  constructor(place, { wants, asks }) {
+  /**
+   * `wants` is called with a move and the squares, `asks` with the promotions among which to choose, `draws` with an arrow or a circle, as `Ge2e4` or `Rd5`. Arrow keys
+   * go over the squares with Shift, and alone if nothing else has them (`hasArrows`).
+   */
+  constructor(place, { wants, asks, draws, hasArrows = false }) {
     this.place = place;
+    this.root = place.getRootNode();
+    this.hasArrows = hasArrows;
     this.wants = wants;
     this.asks = asks;
+    this.draws = draws;
     this.turned = false;
     this.chosen = '';
     this.at = 'e2';
@@ -28,9 +25,12 @@ export class Board {
     this.shown = { men: {}, moves: [], castlings: [], heat: null, checks: [], last: '' };
     this.dropped = '';
     this.pointed = '';
+    this.marked = [];
+    this.arrowFrom = '';
     this.lay();
     place.addEventListener('pointerdown', (event) => this.down(event));
     place.addEventListener('keydown', (event) => this.key(event));
+    place.addEventListener('contextmenu', (event) => this.draws && event.preventDefault());
     place.addEventListener('focusin', ({ target }) => { this.at = target.dataset.square ?? this.at; });
   }
 
@@ -59,11 +59,12 @@ export class Board {
   }
 
   turn(turned) {
-    const had = this.place.contains(document.activeElement);
+    const had = this.place.contains(this.root.activeElement);
     this.turned = turned;
     this.lay();
     this.draw();
     this.point(this.pointed);
+    this.mark(this.marked);
     if (had) this.squares[this.at].focus();
   }
 
@@ -76,7 +77,7 @@ export class Board {
     this.shown = { men: placed(fen), moves, castlings, heat, checks, last };
     this.side = fen.split(' ')[1];
     const isOther = fen !== this.fen;
-    if (isOther) this.chosen = '';
+    if (isOther) Object.assign(this, { chosen: '', arrowFrom: '' });
     this.fen = fen;
     this.draw();
     if (isOther && !still) this.glide(was);
@@ -112,24 +113,54 @@ export class Board {
   /** An arrow from the square to the square of a move in long algebraic notation, or none where it is empty. */
   point(m) {
     this.pointed = m;
-    this.place.querySelector('.arrow')?.remove();
-    if (!m) return;
-    const middle = (name) => {
-      const [x, y] = [FILES.indexOf(name[0]) + 0.5, 8.5 - Number(name[1])];
-      return this.turned ? [8 - x, 8 - y] : [x, y];
-    };
-    const [[x, y], [to, down]] = [middle(m.slice(0, 2)), middle(m.slice(2, 4))];
-    const long = Math.hypot(to - x, down - y);
+    this.over('arrow', m ? [this.arrow(m.slice(0, 2), m.slice(2, 4))] : []);
+  }
+
+  /** Draws arrows and circles, `{colour, from, to}`, and a `preview` of one that is being drawn. */
+  mark(shapes, preview = null) {
+    this.marked = shapes;
+    const all = preview ? [...shapes, preview] : shapes;
+    this.over('shapes', all.map(({ colour, from, to }) => {
+      const it = from === to ? this.circle(from) : this.arrow(from, to);
+      it.setAttribute('class', `shape${colour in COLOURS ? colour : 'G'}`);
+      return it;
+    }));
+    this.draw();
+  }
+
+  // A picture over the squares, in the place of the one of that kind.
+  over(kind, parts) {
+    this.place.querySelector(`:scope > .${kind}`)?.remove();
+    if (parts.length === 0) return;
     const picture = document.createElementNS(SVG, 'svg');
-    picture.setAttribute('class', 'arrow');
+    picture.setAttribute('class', kind);
     picture.setAttribute('viewBox', '0 0 8 8');
     picture.setAttribute('aria-hidden', 'true');
+    picture.append(...parts);
+    this.place.append(picture);
+  }
+
+  // The middle of a square as it is seen.
+  middle(name) {
+    const [x, y] = [FILES.indexOf(name[0]) + 0.5, 8.5 - Number(name[1])];
+    return this.turned ? [8 - x, 8 - y] : [x, y];
+  }
+
+  arrow(a, b) {
+    const [[x, y], [to, down]] = [this.middle(a), this.middle(b)];
+    const long = Math.hypot(to - x, down - y);
     const path = document.createElementNS(SVG, 'path');
     path.setAttribute('d', `M.32-.06H${long - 0.4}V-.18L${long - 0.08} 0L${long - 0.4} .18V.06H.32z`);
     path.setAttribute('stroke-width', '0.03');
     path.setAttribute('transform', `translate(${x} ${y}) rotate(${Math.atan2(down - y, to - x) * 180 / Math.PI})`);
-    picture.append(path);
-    this.place.append(picture);
+    return path;
+  }
+
+  circle(name) {
+    const [x, y] = this.middle(name);
+    const it = document.createElementNS(SVG, 'circle');
+    for (const [key, value] of Object.entries({ cx: x, cy: y, r: 0.44, 'stroke-width': 0.08 })) it.setAttribute(key, value);
+    return it;
   }
 
   targets() {
@@ -178,6 +209,8 @@ export class Board {
       if (isChecked) said.push('in check');
       if (checks.includes(name)) said.push('gives check');
       if (heat) said.push(`attacked ${count} times`);
+      if (name === this.arrowFrom) said.push('an arrow begins here');
+      for (const { colour, from, to } of this.marked) if (from === name) said.push(`${COLOURS[colour] ?? 'green'} ${from === to ? 'circle' : `arrow to ${to}`}`);
       const kind = ['square', ...Object.keys(is).filter((it) => is[it]), ...(heat ? [`by${heat.colour}`] : [])].join(' ');
       this.drawSquare(name, { kind, letter, isAt: name === this.at, count: heat ? count : null, said: said.join(', ') });
     }
@@ -238,11 +271,12 @@ export class Board {
   }
 
   squareAt(x, y) {
-    return document.elementFromPoint(x, y)?.closest?.('[data-square]')?.dataset.square;
+    return this.root.elementFromPoint(x, y)?.closest?.('[data-square]')?.dataset.square;
   }
 
   down(event) {
     const from = event.target.closest('[data-square]')?.dataset.square;
+    if (from && event.button === 2 && this.draws) this.drag(event, from);
     if (!from || event.button !== 0) return;
     event.preventDefault();
     this.squares[from].focus({ preventScroll: true });
@@ -260,7 +294,7 @@ export class Board {
         const size = this.squares[from].offsetWidth;
         ghost.style.width = ghost.style.height = `${size}px`;
         ghost.append(man(this.shown.men[from]));
-        document.body.append(ghost);
+        (this.root.body ?? this.root).append(ghost);
         this.squares[from].classList.add('dragged');
         this.drawn[from] = '';
       }
@@ -297,11 +331,44 @@ export class Board {
     addEventListener('pointercancel', ended);
   }
 
+  // With the right button an arrow is drawn, or on one square a circle: green, red with Shift or Ctrl, blue with Alt, yellow with both.
+  drag(event, from) {
+    event.preventDefault();
+    const colourOf = (it) => 'GRBY'[(it.shiftKey || it.ctrlKey ? 1 : 0) + (it.altKey || it.metaKey ? 2 : 0)];
+    const colour = colourOf(event);
+    let to = from;
+    const shows = () => this.mark(this.marked, to ? { colour, from, to } : null);
+    const moved = (it) => {
+      to = this.squareAt(it.clientX, it.clientY);
+      shows();
+    };
+    const ended = (it) => {
+      removeEventListener('pointermove', moved);
+      removeEventListener('pointerup', ended);
+      removeEventListener('pointercancel', ended);
+      to = it.type === 'pointerup' ? this.squareAt(it.clientX, it.clientY) : undefined;
+      this.mark(this.marked);
+      if (to) this.draws(`${colour}${from}${to === from ? '' : to}`);
+    };
+    addEventListener('pointermove', moved);
+    addEventListener('pointerup', ended);
+    addEventListener('pointercancel', ended);
+    shows();
+  }
+
+  // By keys an arrow begins at one square and ends at another; twice at one it is a circle.
+  drawByKey() {
+    const from = this.arrowFrom;
+    this.arrowFrom = from ? '' : this.at;
+    this.draw();
+    if (from) this.draws(`G${from}${from === this.at ? '' : this.at}`);
+  }
+
   key(event) {
     const steps = { ArrowLeft: [-1, 0], ArrowRight: [1, 0], ArrowUp: [0, 1], ArrowDown: [0, -1] };
     if (event.altKey || event.ctrlKey || event.metaKey) return;
-    // An arrow alone steps through the game.
-    if (steps[event.key] && !event.shiftKey) return;
+    // (an arrow alone steps through the game where the page has one)
+    if (steps[event.key] && !event.shiftKey && !this.hasArrows) return;
     if (steps[event.key]) {
       event.preventDefault();
       const by = this.turned ? -1 : 1;
@@ -315,8 +382,12 @@ export class Board {
       event.preventDefault();
       this.pick(this.at);
       this.squares[this.at].focus();
+    } else if (event.key.toLowerCase() === 'a' && this.draws) {
+      event.preventDefault();
+      this.drawByKey();
     } else if (event.key === 'Escape') {
       this.chosen = '';
+      this.arrowFrom = '';
       this.draw();
     }
   }
