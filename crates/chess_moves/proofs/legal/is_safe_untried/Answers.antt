@@ -25,7 +25,7 @@ returns-then-not-are_in_line g c =
     let king : OnlyKing (man_on p) p.side k = only_king p.placement p.side k (c.requires.setup.kings p.side) (omega arith) here in
     let side : c.opponent.result ≡ opponent p.side = c.opponent.ensures ∙ ap (λ (q : PositionParts). opponent q.side) same in
     let quiet : is_attacked (man_on p) (opponent p.side) k ≡ false =
-    ap (λ x. is_attacked (man_on p) x k) (sym side) ∙ sym c.is_attacked.ensures ∙ c.if-not-is_attacked.true in
+    ap (λ x. is_attacked (man_on p) x k) (sym side) ∙ sym c.is_attacked-attacked.ensures ∙ c.if-not-attacked.true in
     let aside : in_line k m.from ≡ false =
     ap (λ (n : MoveParts). in_line k n.from) (sym c.m.view_is) ∙ sym c.are_in_line.ensures ∙ c.if-not-are_in_line.true in
     let f : Facts p c.args.man m = facts p m c.requires.setup (omega arith) (omega arith) c.args.man c.requires.here c.requires.pseudo in
