@@ -8,7 +8,7 @@ import unittest
 
 import runs
 
-PAGES = ["README.md", "CONTRIBUTING.md", "CHANGELOG.md", "SECURITY.md", "crates/README.md", "examples/README.md", "tools/README.md", "web/jatshegi/README.md", "suite/README.md"]
+PAGES = ["README.md", "CONTRIBUTING.md", "CHANGELOG.md", "SECURITY.md", "crates/README.md", "examples/README.md", "tools/README.md", "tools/tables/README.md", "web/jatshegi/README.md", "suite/README.md"]
 PAGES += sorted(it for folder in ("docs", ".github", ".github/ISSUE_TEMPLATE") for it in glob.glob(f"{folder}/*.md", root_dir=runs.TOP))
 
 # Words that no source has: commands of the machine, letters of men and moves, a move that is not read, and a name that stands for others.
@@ -94,7 +94,7 @@ class Pages(unittest.TestCase):
         python = glob.glob("python/jatshegi/**/*.py", root_dir=runs.TOP, recursive=True)
         rust = glob.glob("rust/src/*.rs", root_dir=runs.TOP)
         script = glob.glob("web/jatshegi/src/*.js", root_dir=runs.TOP)
-        tools = [f"tools/{name}" for name in os.listdir(f"{runs.TOP}/tools")]
+        tools = [path for path in glob.glob("tools/*", root_dir=runs.TOP) + glob.glob("tools/tables/*", root_dir=runs.TOP) if os.path.isfile(f"{runs.TOP}/{path}")]
         suite = [f"suite/{name}" for name in glob.glob("run*", root_dir=f"{runs.TOP}/suite") + glob.glob("*.jsonl", root_dir=f"{runs.TOP}/suite")]
         suite += glob.glob("suite/boards/*.*", root_dir=runs.TOP)
         for path in ("chess", "build", "test", "DESCRIPTION", *tools, *suite, "crates.txt", "include/jatshegi.h", "rust/build.rs", *python, *rust, *script):

@@ -72,7 +72,7 @@ class Declarations(unittest.TestCase):
     def test_errors_are_told_as_in_c(self):
         """Each fault of the crate has the sentence of jatshegi_status_text for its status."""
         header = dict(re.findall(r'case JATSHEGI_(\w+): return "([^"]*)";', read("include/jatshegi.h")))
-        told = re.findall(r'\b(FenError|GameFault|Error)::(\w+) => "([^"]*)"', read("rust/src/error.rs"))
+        told = re.findall(r'\b(FenError|GameFault|Error)::(\w+) => "([^"]*)"', read("rust/src/codes.rs"))
         self.assertGreater(len(told), 30)
         for kind, name, text in told:
             status = {"FenError": "FEN_", "GameFault": "PGN_", "Error": ""}[kind] + re.sub(r"(?<!^)([A-Z])", r"_\1", name).upper()

@@ -36,6 +36,7 @@ extern crate alloc;
 
 mod board;
 mod book;
+mod codes;
 mod coming;
 mod error;
 mod game;

@@ -1,8 +1,8 @@
-//! The functions of include/jatshegi.h and its types, as C has them, without jatshegi_keys_fill, which nothing needs here. A test compares their names, arguments
-//! and fields with the header.
-#![allow(missing_docs)]
+//! The numbers, structs and functions of include/jatshegi.h, as C has them, without jatshegi_keys_fill. tools/calls writes this file from tools/tables.
+#![allow(missing_docs, dead_code)]
 
 pub const OK: u32 = 0;
+pub const EMPTY: u32 = 1;
 pub const NO_MEMORY: u32 = 2;
 pub const ILLEGAL: u32 = 3;
 pub const AMBIGUOUS: u32 = 4;
@@ -21,33 +21,33 @@ pub const ABANDONED: u32 = 17;
 pub const TAG_NAME: u32 = 18;
 pub const TAG_OWN: u32 = 19;
 pub const TAG_VALUE: u32 = 20;
-// The status of a FEN's fault is its number, from 1, and this; so is that of a game's.
-pub const FEN: u32 = 20;
-pub const PGN: u32 = 40;
+pub const FEN_FIELDS: u32 = 21;
+pub const FEN_PLACEMENT: u32 = 22;
+pub const FEN_KINGS: u32 = 23;
+pub const FEN_PAWN_RANK: u32 = 24;
+pub const FEN_TOO_MANY_MEN: u32 = 25;
+pub const FEN_SIDE: u32 = 26;
+pub const FEN_CASTLING: u32 = 27;
+pub const FEN_TARGET: u32 = 28;
+pub const FEN_COUNTER: u32 = 29;
+pub const FEN_IN_CHECK: u32 = 30;
+pub const PGN_TOKEN: u32 = 41;
+pub const PGN_TAG: u32 = 42;
+pub const PGN_MOVE: u32 = 43;
+pub const PGN_VARIATION: u32 = 44;
+pub const PGN_DEEP: u32 = 45;
+pub const PGN_TRUNCATED: u32 = 46;
+pub const PGN_FEN: u32 = 47;
+pub const PGN_TOO_LARGE: u32 = 49;
 
 pub const MOST_MOVES: usize = 432;
 pub const MOST_FEN: usize = 128;
 pub const MOST_SAN: usize = 8;
+pub const MOST_UCI: usize = 5;
+pub const MOST_ANSWER: usize = 2600;
 pub const MOST_REPLIES: usize = 260;
 pub const NO_SQUARE: u8 = 64;
 pub const NEVER: u32 = u32::MAX;
-
-#[repr(C)]
-pub struct Keys {
-    pub words: [u64; 768],
-}
-
-#[repr(C)]
-pub struct Slot {
-    pub full: bool,
-    pub at: *mut core::ffi::c_void,
-}
-
-#[repr(C)]
-pub struct Stop {
-    pub full: bool,
-    pub at: *mut core::ffi::c_void,
-}
 
 #[repr(C)]
 #[derive(Clone, Copy, Default)]
@@ -55,15 +55,6 @@ pub struct Move {
     pub from: u8,
     pub to: u8,
     pub promotion: u8,
-}
-
-#[repr(C)]
-#[derive(Clone, Copy, Default)]
-pub struct Repair {
-    pub place: usize,
-    pub length: usize,
-    pub written: usize,
-    pub kind: u32,
 }
 
 #[repr(C)]
@@ -75,6 +66,15 @@ pub struct Position {
     pub target: u8,
     pub clock: u32,
     pub number: u32,
+}
+
+#[repr(C)]
+#[derive(Clone, Copy, Default)]
+pub struct Repair {
+    pub place: usize,
+    pub length: usize,
+    pub written: usize,
+    pub kind: u32,
 }
 
 #[repr(C)]
@@ -91,6 +91,23 @@ pub struct Report {
     pub repetitions: u32,
     pub quiet: u32,
     pub agrees: bool,
+}
+
+#[repr(C)]
+pub struct Keys {
+    pub words: [u64; 768],
+}
+
+#[repr(C)]
+pub struct Slot {
+    pub full: bool,
+    pub at: *mut core::ffi::c_void,
+}
+
+#[repr(C)]
+pub struct Stop {
+    pub full: bool,
+    pub at: *mut core::ffi::c_void,
 }
 
 extern "C" {
