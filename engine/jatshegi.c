@@ -76,8 +76,8 @@ static struct jatshegi_board twin;
 /* The flag that has a root abandoned, by two handles: the search's and the second thread's. */
 static struct jatshegi_stop stop, stopper;
 
-/* The position that the session searches, where it is known here, a copy to look ahead on, and whether all legal moves are the roots. */
-static struct jatshegi_board position, ahead;
+/* The position that the session searches, where it is known here, and whether all legal moves are the roots. */
+static struct jatshegi_board position;
 static bool is_known, are_all_roots;
 
 /* A line for the session after a position that it has refused: it has no legal move then, so it answers with none, and not with a move of an older position. */
@@ -159,24 +159,28 @@ static uint64_t reply_nodes(void) {
     return share > REPLY_NODES ? share : REPLY_NODES;
 }
 
-/* Looks for the best replies after the move of a report, each by a search of its own to the rest of the depth, as far as the flag, memory and positions go. */
+/* The value that a report's score writes: centipawns, or 30,000 less the plies to a mate. */
+static int32_t value_of(const char *reply, const char *end) {
+    static const char mated[] = " score mate ", valued[] = " score cp ";
+    const char *mate = find(reply, end, mated), *plain = find(reply, end, valued);
+    long moves = mate < end ? strtol(mate + strlen(mated), NULL, 10) : 0;
+    if (mate < end) return (int32_t)(moves > 0 ? 30001 - 2 * moves : -30000 - 2 * moves);
+    return plain < end ? (int32_t)strtol(plain + strlen(valued), NULL, 10) : 0;
+}
+
+/* Looks for the best replies after the move of a report: the line of its score, as far as the flag, memory and positions go. */
 static void search_replies(const char *reply, const char *end) {
-    uint64_t left = reply_nodes(), visited, depth;
+    const char *text = find(reply, end, line_of_best);
+    uint8_t depth = (uint8_t)strtoul(reply + strlen(report), NULL, 10);
     struct jatshegi_move move;
-    const char *text;
-    int32_t value;
-    bool added;
+    uint64_t visited;
     replies_after.count = 0;
-    if (!is_known || !begins_with(reply, end, report)) return;
-    depth = strtoul(reply + strlen(report), NULL, 10);
-    text = find(reply, end, line_of_best);
-    if (text < end) text += strlen(line_of_best);
-    if (jatshegi_move_read(text, (size_t)(end - text), &move) != JATSHEGI_OK || jatshegi_board_copy(&position, &ahead) != JATSHEGI_OK) return;
-    while (depth-- > 1 && replies_after.count < MOST_DEPTH && jatshegi_board_play(&ahead, move, &added) == JATSHEGI_OK) {
-        if (jatshegi_board_best_within(&ahead, (uint8_t)depth, left, &stop, &move, &value, &visited) != JATSHEGI_OK) return;
-        replies_after.moves[replies_after.count++] = move;
-        left -= visited;
-    }
+    if (!is_known || !begins_with(reply, end, report) || text == end) return;
+    text += strlen(line_of_best);
+    if (jatshegi_move_read(text, (size_t)(end - text), &move) != JATSHEGI_OK) return;
+    if (jatshegi_board_replies(&position, move, depth, value_of(reply, text), reply_nodes(), &stop, replies_after.moves, MOST_DEPTH, &replies_after.count, &visited) !=
+        JATSHEGI_OK)
+        replies_after.count = 0;
 }
 
 /* Writes the report of a depth, with what it took and the best replies. A mate is the value at each greater depth, too, and one root is the move at each. */
@@ -617,7 +621,6 @@ int main(int count, char **words) {
     jatshegi_stop_free(&stopper);
     jatshegi_stop_free(&stop);
     jatshegi_board_free(&twin);
-    jatshegi_board_free(&ahead);
     jatshegi_board_free(&position);
     jatshegi_board_free(&board);
     if (record && fclose(record)) fail("the record can't be written", errno);

@@ -408,8 +408,20 @@ uint32_t jatshegi_board_key(const struct jatshegi_board *board, uint64_t *key);
 /* Writes the fields of the position. OK, EMPTY. */
 uint32_t jatshegi_board_position(const struct jatshegi_board *board, struct jatshegi_position *position);
 
+/* Writes the side to move: 0 for White, 1 for Black. OK, EMPTY. */
+uint32_t jatshegi_board_turn(const struct jatshegi_board *board, uint8_t *colour);
+
+/*
+ * Writes what is on a square, from 0 for a1 and 1 for b1 to 63 for h8: a man's letter (PGN 16.1.3.1), such as 'K' for White's king, or 0 for nothing. OK,
+ * EMPTY, ARGUMENT.
+ */
+uint32_t jatshegi_board_piece_at(const struct jatshegi_board *board, uint8_t square, char *piece);
+
 /* Writes the legal moves in order, and their number, at most JATSHEGI_MOST_MOVES (FIDE Laws 3.1 to 3.10). OK, EMPTY, NO_ROOM. */
 uint32_t jatshegi_board_moves(const struct jatshegi_board *board, struct jatshegi_move *moves, size_t room, size_t *count);
+
+/* Says whether a move is legal (FIDE Laws 3.9.2, 3.10.1). Three numbers that form no move are not legal. OK, EMPTY. */
+uint32_t jatshegi_board_is_legal(const struct jatshegi_board *board, struct jatshegi_move move, bool *legal);
 
 /*
  * Writes the moves from the root to the cursor in the order in which they were made, and their number: 0 at the root, and at most 20,000. OK, EMPTY, NO_ROOM.
@@ -475,6 +487,9 @@ uint32_t jatshegi_board_kinds(const struct jatshegi_board *board, struct jatsheg
  * opponent oversteps the time, the game is then a draw (FIDE Laws 5.2.2, 6.9). `false` doesn't mean that the side can mate. OK, EMPTY, ARGUMENT.
  */
 uint32_t jatshegi_board_cannot_mate(const struct jatshegi_board *board, uint8_t side, bool *cannot);
+
+/* Says whether the king of the side to move is in check (FIDE Laws 3.9.1). OK, EMPTY. */
+uint32_t jatshegi_board_in_check(const struct jatshegi_board *board, bool *check);
 
 /* Writes for each square 1 if a man on it checks the side to move, otherwise 0 (FIDE Laws 3.9.1). OK, EMPTY. */
 uint32_t jatshegi_board_checks(const struct jatshegi_board *board, uint8_t checks[64]);
@@ -556,6 +571,17 @@ void jatshegi_stop_free(struct jatshegi_stop *stop);
 uint32_t jatshegi_board_best_within(const struct jatshegi_board *board, uint8_t depth, uint64_t nodes, const struct jatshegi_stop *stop,
                                     struct jatshegi_move *move, int32_t *value, uint64_t *visited);
 uint32_t jatshegi_search_slice_within(struct jatshegi_board *board, uint64_t nodes, const struct jatshegi_stop *stop, size_t *left, uint64_t *visited);
+
+/*
+ * Writes the replies after a legal move that a search of 1 to 16 plies found worth `value`: the line that leads to the score. Each reply is the first legal
+ * move that is worth as much to its side as the value says. The line ends at the depth, or if the game is over. It has at most 15 moves.
+ *
+ * Pass the move and the value of jatshegi_board_best or jatshegi_board_best_within, at the same depth. The value is -30,000 to 30,000. With another value the
+ * line ends where no move is worth it. The limits and `visited` are those of jatshegi_board_best_within. The search is short, since the value is known. OK,
+ * EMPTY, NO_MEMORY, NO_ROOM, ILLEGAL, ARGUMENT, ABANDONED.
+ */
+uint32_t jatshegi_board_replies(const struct jatshegi_board *board, struct jatshegi_move move, uint8_t depth, int32_t value, uint64_t nodes,
+                                const struct jatshegi_stop *stop, struct jatshegi_move *moves, size_t room, size_t *count, uint64_t *visited);
 
 /*
  * Drive a session of the universal chess interface (UCI) by events. Each board has one session, which is independent of the board's game. jatshegi_engine_line

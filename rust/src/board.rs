@@ -266,12 +266,15 @@ impl Board {
 
     /// The side to move.
     pub fn turn(&self) -> Color {
-        color(self.position().side)
+        // SAFETY: the number is written.
+        color(self.asked(0, |slot, side| unsafe { sys::jatshegi_board_turn(slot, side) }))
     }
 
     /// The man on a square.
     pub fn piece_at(&self, square: Square) -> Option<Piece> {
-        Piece::from_char(self.position().men[square.0 as usize] as char)
+        // SAFETY: the letter is written, and the number is a square.
+        let letter = self.asked(0, |slot, piece| unsafe { sys::jatshegi_board_piece_at(slot, square.0, piece) });
+        Piece::from_char(letter as char)
     }
 
     /// The men with their squares, a1 first.
@@ -328,7 +331,8 @@ impl Board {
 
     /// Whether the move is legal.
     pub fn is_legal(&self, m: Move) -> bool {
-        self.kind(m).is_ok()
+        // SAFETY: the answer is written.
+        self.asked(false, |slot, legal| unsafe { sys::jatshegi_board_is_legal(slot, m.raw(), legal) })
     }
 
     /// The legal move that a text names: `Nf3`, `exd8=Q+`, `O-O`, or `e2e4` (PGN 8.2.3).
@@ -450,7 +454,8 @@ impl Board {
 
     /// Whether the side to move is in check.
     pub fn is_check(&self) -> bool {
-        !self.checkers().is_empty()
+        // SAFETY: the answer is written.
+        self.asked(false, |slot, check| unsafe { sys::jatshegi_board_in_check(slot, check) })
     }
 
     /// The men of a side that attack a square, whatever is on it (FIDE Laws 3.1 to 3.8).

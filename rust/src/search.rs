@@ -117,6 +117,30 @@ impl Board {
         Ok((Move::of(m), value))
     }
 
+    /// The replies after a move that a search of that depth found worth `value`: with the move they are the line that leads to the score. Abandoned at the first
+    /// position beyond `nodes`, and within some milliseconds of a flag that is set.
+    ///
+    /// ```
+    /// # use jatshegi::Board;
+    /// let board = Board::from_fen("6k1/5ppp/8/8/8/8/8/K2R4 w - - 0 1")?;
+    /// let (m, value) = board.best(2)?;
+    /// assert_eq!(board.replies(m, 2, value, u64::MAX, None)?.len(), 0); // mate at once
+    /// # Ok::<(), jatshegi::Error>(())
+    /// ```
+    ///
+    /// # Errors
+    ///
+    /// [`Error::Illegal`] if the move isn't legal, [`Error::Argument`] for a depth beyond 1 to 16 or a value beyond 30,000, [`Error::Abandoned`],
+    /// [`Error::NoMemory`].
+    pub fn replies(&self, m: Move, depth: u8, value: i32, nodes: u64, stop: Option<&Stop>) -> Result<Vec<Move>, Error> {
+        let none = Stop::none();
+        let stop = stop.unwrap_or(&none);
+        let (mut moves, mut count, mut visited) = ([sys::Move::default(); 16], 0, 0);
+        // SAFETY: the handle is one or none, the room has 16 moves, and the outputs are written.
+        checked(unsafe { sys::jatshegi_board_replies(self.at(), m.raw(), depth, value, nodes, stop.at(), moves.as_mut_ptr(), moves.len(), &mut count, &mut visited) })?;
+        Ok(moves[..count].iter().map(|m| Move::of(*m)).collect())
+    }
+
     /// Begins a search that is driven one legal move at a time. It has a line of its own.
     ///
     /// # Errors

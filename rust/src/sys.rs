@@ -124,7 +124,10 @@ extern "C" {
     pub fn jatshegi_board_epd(board: *const Slot, text: *mut u8, room: usize, length: *mut usize) -> u32;
     pub fn jatshegi_board_key(board: *const Slot, key: *mut u64) -> u32;
     pub fn jatshegi_board_position(board: *const Slot, position: *mut Position) -> u32;
+    pub fn jatshegi_board_turn(board: *const Slot, colour: *mut u8) -> u32;
+    pub fn jatshegi_board_piece_at(board: *const Slot, square: u8, piece: *mut u8) -> u32;
     pub fn jatshegi_board_moves(board: *const Slot, moves: *mut Move, room: usize, count: *mut usize) -> u32;
+    pub fn jatshegi_board_is_legal(board: *const Slot, m: Move, legal: *mut bool) -> u32;
     pub fn jatshegi_board_line(board: *const Slot, moves: *mut Move, room: usize, count: *mut usize) -> u32;
     pub fn jatshegi_board_play(board: *mut Slot, m: Move, added: *mut bool) -> u32;
     pub fn jatshegi_board_play_text(board: *mut Slot, text: *const u8, length: usize, added: *mut bool) -> u32;
@@ -140,6 +143,7 @@ extern "C" {
     pub fn jatshegi_board_repetitions(board: *const Slot, times: *mut u32) -> u32;
     pub fn jatshegi_board_kinds(board: *const Slot, m: Move, kinds: *mut u32) -> u32;
     pub fn jatshegi_board_cannot_mate(board: *const Slot, side: u8, cannot: *mut bool) -> u32;
+    pub fn jatshegi_board_in_check(board: *const Slot, check: *mut bool) -> u32;
     pub fn jatshegi_board_checks(board: *const Slot, checks: *mut u8) -> u32;
     pub fn jatshegi_board_counts(board: *const Slot, white: *mut u8, black: *mut u8) -> u32;
     pub fn jatshegi_board_attackers(board: *const Slot, colour: u8, square: u8, attackers: *mut u64) -> u32;
@@ -157,6 +161,18 @@ extern "C" {
     pub fn jatshegi_stop_free(stop: *mut Stop);
     pub fn jatshegi_board_best_within(board: *const Slot, depth: u8, nodes: u64, stop: *const Stop, m: *mut Move, value: *mut i32, visited: *mut u64) -> u32;
     pub fn jatshegi_search_slice_within(board: *mut Slot, nodes: u64, stop: *const Stop, left: *mut usize, visited: *mut u64) -> u32;
+    pub fn jatshegi_board_replies(
+        board: *const Slot,
+        m: Move,
+        depth: u8,
+        value: i32,
+        nodes: u64,
+        stop: *const Stop,
+        moves: *mut Move,
+        room: usize,
+        count: *mut usize,
+        visited: *mut u64,
+    ) -> u32;
     pub fn jatshegi_engine_line(board: *mut Slot, line: *const u8, length: usize, replies: *mut u8, room: usize, count: *mut usize) -> u32;
     pub fn jatshegi_engine_slice(board: *mut Slot, replies: *mut u8, room: usize, count: *mut usize) -> u32;
     pub fn jatshegi_engine_moment(board: *mut Slot, moment: u64, replies: *mut u8, room: usize, count: *mut usize) -> u32;

@@ -100,6 +100,15 @@ static void without_a_board(void) {
     CHECK(jatshegi_board_checks(&none, white) == JATSHEGI_EMPTY);
     CHECK(jatshegi_board_counts(&none, white, black) == JATSHEGI_EMPTY);
     CHECK(jatshegi_board_attackers(&none, JATSHEGI_WHITE, 0, &bits) == JATSHEGI_EMPTY && bits == 7);
+    {
+        uint8_t colour = 7;
+        char piece = 7;
+        bool is_so = true;
+        CHECK(jatshegi_board_turn(&none, &colour) == JATSHEGI_EMPTY && colour == 7);
+        CHECK(jatshegi_board_piece_at(&none, 0, &piece) == JATSHEGI_EMPTY && piece == 7);
+        CHECK(jatshegi_board_in_check(&none, &is_so) == JATSHEGI_EMPTY && is_so);
+        CHECK(jatshegi_board_is_legal(&none, m, &is_so) == JATSHEGI_EMPTY && is_so);
+    }
     CHECK(jatshegi_board_key(&none, &bits) == JATSHEGI_EMPTY && bits == 7);
     number = 7;
     CHECK(jatshegi_board_kinds(&none, m, &number) == JATSHEGI_EMPTY && number == 7);
@@ -121,6 +130,7 @@ static void without_a_board(void) {
     CHECK(jatshegi_engine_slice_within(&none, 9, &stop, &searching, &visited, text, sizeof text, &count) == JATSHEGI_EMPTY && !searching);
     CHECK(jatshegi_search_slice_within(&none, 9, &stop, &count, &visited) == JATSHEGI_EMPTY);
     CHECK(jatshegi_board_best_within(&none, 1, 9, &stop, &m, &value, &visited) == JATSHEGI_EMPTY && visited == 7 && count == 7);
+    CHECK(jatshegi_board_replies(&none, m, 1, 0, 9, &stop, &m, 1, &count, &visited) == JATSHEGI_EMPTY && visited == 7 && count == 7);
     CHECK(jatshegi_stop_set(&stop, true) == JATSHEGI_EMPTY && jatshegi_stop_share(&stop, &stop_too) == JATSHEGI_EMPTY);
     jatshegi_stop_free(&stop);
     CHECK(jatshegi_board_load(&none, "*", 1, &count) == JATSHEGI_EMPTY && count == 7);
@@ -329,6 +339,25 @@ static void numbers(struct jatshegi_board *b) {
     CHECK(set(b, START) == JATSHEGI_OK);
     CHECK(jatshegi_board_counts(b, white, black) == JATSHEGI_OK);
     CHECK(white[0] == 0 && white[16] == 2 && white[18] == 3 && black[18] == 0 && black[42] == 3 && white[12] == 4);
+    {
+        uint8_t colour = 7;
+        char piece = 7;
+        bool is_so = true;
+        CHECK(jatshegi_board_turn(b, &colour) == JATSHEGI_OK && colour == JATSHEGI_WHITE);
+        CHECK(jatshegi_board_piece_at(b, 4, &piece) == JATSHEGI_OK && piece == 'K');
+        CHECK(jatshegi_board_piece_at(b, 59, &piece) == JATSHEGI_OK && piece == 'q');
+        CHECK(jatshegi_board_piece_at(b, 64, &piece) == JATSHEGI_ARGUMENT && piece == 'q');
+        CHECK(jatshegi_board_piece_at(b, 28, &piece) == JATSHEGI_OK && piece == 0);
+        CHECK(jatshegi_board_in_check(b, &is_so) == JATSHEGI_OK && !is_so);
+        CHECK(jatshegi_board_is_legal(b, move_of(12, 28, 0), &is_so) == JATSHEGI_OK && is_so);
+        CHECK(jatshegi_board_is_legal(b, move_of(12, 28, 1), &is_so) == JATSHEGI_OK && !is_so);
+        CHECK(jatshegi_board_is_legal(b, move_of(52, 36, 0), &is_so) == JATSHEGI_OK && !is_so);
+        CHECK(jatshegi_board_is_legal(b, move_of(12, 99, 0), &is_so) == JATSHEGI_OK && !is_so);
+        CHECK(play(b, "f3") == JATSHEGI_OK && play(b, "e5") == JATSHEGI_OK && play(b, "g4") == JATSHEGI_OK);
+        CHECK(jatshegi_board_turn(b, &colour) == JATSHEGI_OK && colour == JATSHEGI_BLACK);
+        CHECK(play(b, "Qh4#") == JATSHEGI_OK && jatshegi_board_in_check(b, &is_so) == JATSHEGI_OK && is_so);
+        CHECK(set(b, START) == JATSHEGI_OK);
+    }
     CHECK(jatshegi_board_attackers(b, JATSHEGI_WHITE, 18, &bits) == JATSHEGI_OK && bits == (1u << 1 | 1u << 9 | 1u << 11));
     CHECK(jatshegi_board_attackers(b, JATSHEGI_BLACK, 18, &bits) == JATSHEGI_OK && bits == 0);
     CHECK(jatshegi_board_attackers(b, JATSHEGI_BLACK, 53, &bits) == JATSHEGI_OK && bits == UINT64_C(1) << 60);
@@ -630,6 +659,31 @@ static void stops(struct jatshegi_board *b) {
     CHECK(jatshegi_board_best_within(b, 3, once - 1, &none, &m, &value, &visited) == JATSHEGI_ABANDONED && visited == once);
     CHECK(jatshegi_stop_set(&other, true) == JATSHEGI_OK);
     CHECK(jatshegi_board_best_within(b, 5, UINT64_MAX, &stop, &m, &value, &visited) == JATSHEGI_ABANDONED && visited == 1025);
+
+    /* The replies along which its value is held: each the best by a search of its own, and at the end the value stands. */
+    CHECK(jatshegi_stop_set(&other, false) == JATSHEGI_OK);
+    {
+        struct jatshegi_move line[16], reply;
+        bool added;
+        for (int i = 0; i < 16; i++) line[i] = move_of(0, 0, 0);
+        CHECK(jatshegi_board_replies(b, whole, 0, worth, UINT64_MAX, &none, line, 16, &count, &visited) == JATSHEGI_ARGUMENT);
+        CHECK(jatshegi_board_replies(b, whole, 17, worth, UINT64_MAX, &none, line, 16, &count, &visited) == JATSHEGI_ARGUMENT);
+        CHECK(jatshegi_board_replies(b, whole, 3, 30001, UINT64_MAX, &none, line, 16, &count, &visited) == JATSHEGI_ARGUMENT);
+        CHECK(jatshegi_board_replies(b, whole, 3, -30001, UINT64_MAX, &none, line, 16, &count, &visited) == JATSHEGI_ARGUMENT);
+        CHECK(jatshegi_board_replies(b, move_of(0, 0, 0), 3, worth, UINT64_MAX, &none, line, 16, &count, &visited) == JATSHEGI_ILLEGAL);
+        CHECK(jatshegi_board_replies(b, whole, 3, worth, 1, &none, line, 16, &count, &visited) == JATSHEGI_ABANDONED && visited == 2 && line[0].to == 0);
+        count = 7;
+        CHECK(jatshegi_board_replies(b, whole, 3, worth, UINT64_MAX, &none, line, 1, &count, &visited) == JATSHEGI_NO_ROOM && count == 2 && line[0].to == 0);
+        CHECK(jatshegi_board_replies(b, whole, 3, worth, UINT64_MAX, &other, line, 16, &count, &visited) == JATSHEGI_OK && count == 2 && visited < once);
+        CHECK(jatshegi_board_play(b, whole, &added) == JATSHEGI_OK && added);
+        for (size_t i = 0; i < count; i++) {
+            CHECK(jatshegi_board_best(b, (uint8_t)(2 - i), &reply, &value) == JATSHEGI_OK && value == (i % 2 ? worth : -worth));
+            CHECK(reply.from == line[i].from && reply.to == line[i].to && reply.promotion == line[i].promotion);
+            CHECK(jatshegi_board_play(b, reply, &added) == JATSHEGI_OK && added);
+        }
+        CHECK(jatshegi_board_evaluation(b, &value) == JATSHEGI_OK && value == -worth);
+        for (size_t i = 0; i <= count; i++) CHECK(jatshegi_board_undo(b, true) == JATSHEGI_OK);
+    }
 
     /* Slices of a search. */
     CHECK(jatshegi_search_slice_within(b, UINT64_MAX, &none, &left, &visited) == JATSHEGI_NONE && left == 7);

@@ -412,6 +412,7 @@ static size_t compose(enum text kind) {
 #define REPAIRS 3
 #define REPAIRED {1, true, true, {REPAIRS * sizeof(struct jatshegi_repair), sizeof(size_t), 0}}
 #define SLICED {1, true, false, {1, 8, 0}}
+#define REPLIED {sizeof(struct jatshegi_move), true, false, {8, 0, 0}}
 #define USED {0, false, true, {0}}
 #define OUT(a, b, c) {0, false, false, {a, b, c}}
 #define NOTHING OUT(0, 0, 0)
@@ -435,7 +436,10 @@ static size_t compose(enum text kind) {
     X(board_epd, NO_TEXT, UNITS(1), 0, EMPTY | ROOM, jatshegi_board_epd(a.board, a.room, a.size, a.count)) \
     X(board_key, NO_TEXT, OUT(8, 0, 0), 0, EMPTY, jatshegi_board_key(a.board, a.out[0])) \
     X(board_position, NO_TEXT, OUT(sizeof(struct jatshegi_position), 0, 0), 0, EMPTY, jatshegi_board_position(a.board, a.out[0])) \
+    X(board_turn, NO_TEXT, OUT(1, 0, 0), 0, EMPTY, jatshegi_board_turn(a.board, a.out[0])) \
+    X(board_piece_at, NO_TEXT, OUT(1, 0, 0), 0, EMPTY | ARGUMENT, jatshegi_board_piece_at(a.board, a.small, a.out[0])) \
     X(board_moves, NO_TEXT, UNITS(M), 0, EMPTY | ROOM, jatshegi_board_moves(a.board, a.room, a.size, a.count)) \
+    X(board_is_legal, NO_TEXT, OUT(1, 0, 0), 0, EMPTY, jatshegi_board_is_legal(a.board, a.move, a.out[0])) \
     X(board_line, NO_TEXT, UNITS(M), 0, EMPTY | ROOM, jatshegi_board_line(a.board, a.room, a.size, a.count)) \
     X(board_play, NO_TEXT, OUT(1, 0, 0), TREE | CURSOR, EMPTY | MEMORY | ILLEGAL | DEEP, jatshegi_board_play(a.board, a.move, a.out[0])) \
     X(board_play_text, MOVE, OUT(1, 0, 0), TREE | CURSOR, EMPTY | MEMORY | NAMED | DEEP, jatshegi_board_play_text(a.board, a.text, a.length, a.out[0])) \
@@ -451,6 +455,7 @@ static size_t compose(enum text kind) {
     X(board_repetitions, NO_TEXT, OUT(4, 0, 0), 0, EMPTY, jatshegi_board_repetitions(a.board, a.out[0])) \
     X(board_kinds, NO_TEXT, OUT(4, 0, 0), 0, EMPTY | ILLEGAL, jatshegi_board_kinds(a.board, a.move, a.out[0])) \
     X(board_cannot_mate, NO_TEXT, OUT(1, 0, 0), 0, EMPTY | ARGUMENT, jatshegi_board_cannot_mate(a.board, a.little, a.out[0])) \
+    X(board_in_check, NO_TEXT, OUT(1, 0, 0), 0, EMPTY, jatshegi_board_in_check(a.board, a.out[0])) \
     X(board_checks, NO_TEXT, OUT(64, 0, 0), 0, EMPTY, jatshegi_board_checks(a.board, a.out[0])) \
     X(board_counts, NO_TEXT, OUT(64, 64, 0), 0, EMPTY, jatshegi_board_counts(a.board, a.out[0], a.out[1])) \
     X(board_attackers, NO_TEXT, OUT(8, 0, 0), 0, EMPTY | ARGUMENT, jatshegi_board_attackers(a.board, a.little, a.small, a.out[0])) \
@@ -469,6 +474,8 @@ static size_t compose(enum text kind) {
     X(stop_free, NO_TEXT, NOTHING, 0, OK, (jatshegi_stop_free(a.small < 16 ? NULL : a.stop), JATSHEGI_OK)) \
     X(board_best_within, NO_TEXT, OUT(M, 4, 8), 0, EMPTY | MEMORY | ARGUMENT | NONE | GONE, \
       jatshegi_board_best_within(a.board, a.depth, a.nodes, a.stop, a.out[0], a.out[1], a.out[2])) \
+    X(board_replies, NO_TEXT, REPLIED, 0, EMPTY | MEMORY | ILLEGAL | ARGUMENT | ROOM | GONE, \
+      jatshegi_board_replies(a.board, a.move, a.depth, (int32_t)a.number, a.nodes, a.stop, a.room, a.size, a.count, a.out[0])) \
     X(search_slice_within, NO_TEXT, OUT(8, 8, 0), SEARCH, EMPTY | NONE | GONE, jatshegi_search_slice_within(a.board, a.nodes, a.stop, a.out[0], a.out[1])) \
     X(engine_line, EVENT, UNITS(1), SESSION, EMPTY | ROOM | MEMORY, jatshegi_engine_line(a.board, a.text, a.length, a.room, a.size, a.count)) \
     X(engine_slice, NO_TEXT, UNITS(1), SESSION, EMPTY | ROOM | MEMORY, jatshegi_engine_slice(a.board, a.room, a.size, a.count)) \
@@ -567,7 +574,7 @@ static void draw_numbers(enum number number) {
     if (number == CALL_board_best && a.depth > 2 && a.depth < 17) a.depth += 16;
     if (number == CALL_search_slice_within) is_shallow = depths[a.at] < 3;
     if (number == CALL_engine_slice_within) is_shallow = slices[a.at] < 20;
-    if (number == CALL_board_best_within) is_shallow = a.depth < 3;
+    if (number == CALL_board_best_within || number == CALL_board_replies) is_shallow = a.depth < 3;
     a.nodes = below(3) || !is_shallow ? below(below(2) ? 40 : 4000) : UINT64_MAX;
     a.move = any_move(a.board);
 }
@@ -644,7 +651,7 @@ static void promise(enum number number) {
     for (int i = 0; i < 3 && a.out_place[i]; i++) {
         bool is_visited = outputs->sizes[i] == 8 && (i == 2 || !a.out_place[i + 1]);
         if (has_others || (status == JATSHEGI_ABANDONED && is_visited)) a.out_place[i]->written = outputs->sizes[i];
-        if (has_others && outputs->sizes[i] == 1) want(*(unsigned char *)a.out[i] < 2, "a bool is neither true nor false");
+        if (has_others && outputs->sizes[i] == 1 && number != CALL_board_piece_at) want(*(unsigned char *)a.out[i] < 2, "a bool is neither true nor false");
     }
 }
 

@@ -8,11 +8,14 @@
 --   IsBest       the best move and its value
 --   IsBestAt     the same for a depth of 1 to 16 plies
 --   IsBestWithin   the same, unless the search for it is abandoned, or there is no memory
+--   IsFollowed     the replies to a move along which its value is held, unless the search for them is abandoned, or nothing is searched
 --   IsMoveHere   the move that leads to a node, or that it is the root
+--   is_legal_meant   three numbers are a legal move
+--   IsPieceAt    what is on a square, for a number that is one
 --   flag         1 for what holds
 --   attackers_of   the men of a colour that attack a square, as a word: the bit of each man's square is 1
 --   IsAttackedBy   that word, for numbers that are a colour and a square
-use Rattle.std.specs.Prelude.{◌≡◌, ◌⊎◌, ◌<◌, ◌≤◌, ℕ, ◌+◌, ◌-◌, ℤ, nat_le, nat_lt, ◌==◌, Bool, true, false, ◌&&◌, if◌then◌else◌, List, [], length, Option, Some, None, Result, Ok, Err}
+use Rattle.std.specs.Prelude.{◌≡◌, ◌⊎◌, ◌<◌, ◌≤◌, ℕ, ◌+◌, ◌-◌, ℤ, pos, neg_ℤ, ◌<ℤ◌, IfSome, IsSomeAnd, map, nat_le, nat_lt, ◌==◌, Bool, true, false, ◌&&◌, if◌then◌else◌, List, [], length, Option, Some, None, Result, Ok, Err}
 use Rattle.chess_types.specs.declared.board.man.Colour.{Colour}
 use Rattle.chess_types.specs.declared.board.man.Man.{Man}
 use Rattle.chess_types.specs.declared.board.outcome.Claims.{Claims}
@@ -21,12 +24,14 @@ use Rattle.chess_types.specs.board.Position.{PositionParts}
 use Rattle.chess_types.specs.board.Attack.{attacks_for}
 use Rattle.chess_types.specs.board.Bits.{word_where}
 use Rattle.chess_types.specs.board.Legal.{is_legal, legal_moves}
-use Rattle.chess_types.specs.board.Lines.{Line, last}
+use Rattle.chess_types.specs.board.Lines.{Line, last, extended}
 use Rattle.chess_types.specs.board.Outcome.{claims_with}
 use Rattle.chess_san.specs.declared.fault.SanFault.{SanFault}
 use Rattle.chess_san.specs.Writing.{san}
 use Rattle.chess_search.specs.Asked.{trees_below}
 use Rattle.chess_search.specs.Best.{best}
+use Rattle.chess_search.specs.Replies.{replies_holding}
+use Rattle.chess_search.specs.Scores.{IsValue}
 use Rattle.chess_search.specs.Watches.{Watched}
 use Rattle.chess_tree.specs.GameTree.{TreeParts}
 use Rattle.chess_tree.specs.Plays.{is_new}
@@ -39,6 +44,7 @@ use Rattle.chess_bindings.specs.Handed.{IsHanded}
 use Rattle.chess_c.specs.Codes.{claims_code, refusal_code}
 use Rattle.chess_c.specs.Held.{Held}
 use Rattle.chess_c.specs.Moves.{move_shown}
+use Rattle.chess_c.specs.Positions.{letter_of}
 
 -- a move is made, if it is one
 abbrev pub play_in : Option MoveParts → TreeParts → Effect
@@ -59,6 +65,20 @@ SaysAdded is_new (Some held) code said said' = said' ≡ (if code == ok then is_
 abbrev pub claims_in : Option MoveParts → Line → Option Claims
 claims_in None line = None
 claims_in (Some m) line = claims_with line m
+
+-- false if the numbers are no move
+abbrev pub is_legal_meant : PositionParts → Option MoveParts → Bool
+is_legal_meant p None = false
+is_legal_meant p (Some m) = is_legal p m
+
+-- by whether the number is a square
+abbrev pub PieceIf : Bool → (ℕ → Option Man) → (square code said said' : ℕ) → Type 0
+PieceIf true at square code said said' = (code ≡ ok) × (said' ≡ letter_of (at square))
+PieceIf false at square code said said' = (code ≡ refusal_code Argument) × (said' ≡ said)
+
+-- the letter of the man on a square, or 0 for nothing
+abbrev pub IsPieceAt : (ℕ → Option Man) → (square code said said' : ℕ) → Type 0
+IsPieceAt at square code said said' = PieceIf (nat_lt square 64) at square code said said'
 
 -- the draws that may be claimed are written, or the move isn't legal
 abbrev pub IsClaimed : Option Claims → (code said said' : ℕ) → Type 0
@@ -121,6 +141,29 @@ abbrev pub IsBestWithin : (says : ℕ → Option Bool) → Line → (depth code 
 IsBestWithin says line depth code said said' value value' nodes nodes' =
     ((1 ≤ depth) × (depth ≤ 16) × BestFound says line depth code said said' value value' nodes')
     ⊎ (IsUnsearched line depth code × (said' ≡ said) × (value' ≡ value) × (nodes' ≡ nodes))
+
+-- by whether it was abandoned
+abbrev pub FollowedUnless : Bool → List MoveParts → (code count count' : ℕ) → (old new : List CMove) → Type 0
+FollowedUnless true moves code count count' old new = IsHanded (map move_shown moves) code count' old new
+FollowedUnless false moves code count count' old new = (code ≡ was_abandoned) × (count' ≡ count) × (new ≡ old)
+
+-- the replies to a legal move, and how many positions were asked for
+abbrev pub RepliesFound : (says : ℕ → Option Bool) → Line → MoveParts → ℕ → ℤ → (code count count' nodes : ℕ) → (old new : List CMove) → Type 0
+RepliesFound says line m depth value code count count' nodes old new =
+    (is_legal (last line) m ≡ true)
+    × ((made : Bool) × Watched says 1 nodes made × FollowedUnless made (replies_holding false (depth - 1) (extended line m) 1 (neg_ℤ value)) code count count' old new)
+
+-- why nothing was searched: the depth or the value is none, the move isn't legal, or there is no memory
+abbrev pub IsUnfollowed : Line → Option MoveParts → ℕ → ℤ → (code : ℕ) → Type 0
+IsUnfollowed line m depth value code =
+    ((code ≡ refusal_code Argument) × ((depth ≡ 0) ⊎ (16 < depth) ⊎ (value <ℤ neg_ℤ (pos 30000)) ⊎ (pos 30000 <ℤ value)))
+    ⊎ ((code ≡ refusal_code Illegal) × IfSome m (λ found. is_legal (last line) found ≡ false)) ⊎ (code ≡ no_memory)
+
+-- the replies to a legal move that is worth the value at a depth from 1 to 16, unless that is abandoned as a watch says, or nothing is searched
+abbrev pub IsFollowed : (says : ℕ → Option Bool) → Line → Option MoveParts → ℕ → ℤ → (code count count' nodes nodes' : ℕ) → (old new : List CMove) → Type 0
+IsFollowed says line m depth value code count count' nodes nodes' old new =
+    ((1 ≤ depth) × (depth ≤ 16) × IsValue value × IsSomeAnd m (λ found. RepliesFound says line found depth value code count count' nodes' old new))
+    ⊎ (IsUnfollowed line m depth value code × (count' ≡ count) × (nodes' ≡ nodes) × (new ≡ old))
 
 -- the move that leads to a node is written; none leads to the root
 abbrev pub IsMoveHere : Option MoveParts → ℕ → (said said' : CMove) → Type 0

@@ -3,7 +3,7 @@
 ghost use Rattle.std.specs.Prelude.{◌≡◌, ◌<◌, ℕ, max, map, is_some};
 ghost use Rattle.std.specs.FinSet.{contains};
 ghost use Rattle.chess_types.specs.declared.board.man.Colour.TheVariants.{Black, White};
-ghost use Rattle.chess_types.specs.board.Attack.{attacks_for, checks_from, count};
+ghost use Rattle.chess_types.specs.board.Attack.{attacks_for, checks_from, count, in_check};
 ghost use Rattle.chess_types.specs.board.Legal.{legal_moves};
 ghost use Rattle.chess_types.specs.board.Lines.{last};
 ghost use Rattle.chess_types.specs.board.Outcome.{claims, status};
@@ -14,19 +14,19 @@ ghost use Rattle.chess_eval.specs.Evaluation.{evaluation};
 ghost use Rattle.chess_fen.specs.Writing.{identity, written};
 ghost use Rattle.chess_san.specs.Naming.{san_reading};
 ghost use Rattle.chess_tree.specs.GameTree.{line_to};
-ghost use Rattle.chess_c.specs.Asked.{IsAttackedBy, IsBestAt, IsBestWithin, IsClaimed, IsRead, IsWritten, attackers_of, claims_in, flag};
+ghost use Rattle.chess_c.specs.Asked.{IsAttackedBy, IsBestAt, IsBestWithin, IsClaimed, IsFollowed, IsPieceAt, IsRead, IsWritten, attackers_of, claims_in, flag, is_legal_meant};
 ghost use Rattle.chess_c.specs.Calls.{Asks};
 ghost use Rattle.chess_bindings.specs.Codes.{outcome_code};
 ghost use Rattle.chess_bindings.specs.Handed.{IsHanded};
 ghost use Rattle.chess_bindings.specs.Within.{says_within};
-ghost use Rattle.chess_c.specs.Codes.{claims_code, colour_of_code};
+ghost use Rattle.chess_c.specs.Codes.{claims_code, colour_code, colour_of_code};
 ghost use Rattle.chess_c.specs.Moves.{move_meant, move_shown};
 ghost use Rattle.chess_c.specs.Positions.{position_shown};
 
-use crate::codes::{claims_code, colour_in, refusal_code};
+use crate::codes::{claims_code, colour_code, colour_in, refusal_code};
 use crate::flag::within;
 use crate::moves::{CMove, hand_line, hand_moves};
-use crate::positions::CPosition;
+use crate::positions::{CPosition, letter_of};
 use crate::slot::{Slot, put, take};
 use crate::squares::{put_counts, put_set, word_of};
 use crate::stop::{Stop, put_stop, take_stop};
@@ -34,8 +34,94 @@ use chess_attack::attackers;
 use chess_bindings::{ARGUMENT, EMPTY, ILLEGAL, NONE, OK, hand, outcome_code};
 use chess_cli::{Board, Refusal};
 use chess_memory::{Heap, Kept};
+use chess_moves::in_check;
 use chess_play::Live;
 use chess_types::{Colour, Square, SquareSet};
+
+/// The side to move: 0 for White, 1 for Black.
+#[unsafe(no_mangle)]
+pub extern "C" fn jatshegi_board_turn(alloc: Kept, slot: &mut Slot, colour: &mut u8) -> u32
+    ensures { Asks (colour.new ≡ colour.old) (λ board code. (code ≡ 0) × (colour.new ≡ colour_code (last (line_to board)).side)) slot.old.held result slot.new.held }
+{
+    let Some(session) = take(slot, alloc) else {
+        return EMPTY;
+    };
+    *colour = colour_code(session.board.live().position().side);
+    put(slot, session, alloc);
+    OK
+}
+
+// What is on a square, where the number is one.
+fn put_piece(live: &Live<'_>, square: u8, piece: &mut u8) -> u32
+    ensures { IsPieceAt (man_on live.now.position) square result piece.old piece.new }
+{
+    if square >= 64 {
+        return ARGUMENT;
+    }
+    let setup = live.position();
+    *piece = letter_of(setup.placement.get(Square::from_index(square)));
+    OK
+}
+
+/// What is on a square: a man's letter (PGN 16.1.3.1), or 0 for nothing.
+#[unsafe(no_mangle)]
+pub extern "C" fn jatshegi_board_piece_at(
+    alloc: Kept,
+    slot: &mut Slot,
+    square: u8,
+    piece: &mut u8,
+) -> u32
+    ensures { Asks (piece.new ≡ piece.old) (λ board code. IsPieceAt (man_on (last (line_to board))) square code piece.old piece.new) slot.old.held result slot.new.held }
+{
+    let Some(session) = take(slot, alloc) else {
+        return EMPTY;
+    };
+    let code = put_piece(session.board.live(), square, piece);
+    put(slot, session, alloc);
+    code
+}
+
+/// Whether the king of the side to move is in check (FIDE Laws 3.9.1).
+#[unsafe(no_mangle)]
+pub extern "C" fn jatshegi_board_in_check(alloc: Kept, slot: &mut Slot, check: &mut bool) -> u32
+    ensures { Asks (check.new ≡ check.old) (λ board code. (code ≡ 0) × (check.new ≡ in_check (man_on (last (line_to board))) (last (line_to board)).side)) slot.old.held result slot.new.held }
+{
+    let Some(session) = take(slot, alloc) else {
+        return EMPTY;
+    };
+    *check = in_check(session.board.live());
+    put(slot, session, alloc);
+    OK
+}
+
+// Whether the numbers are a legal move.
+fn is_legal_meant(board: &mut Board<'static, Heap>, m: CMove) -> bool
+    ensures value { result ≡ is_legal_meant (last (line_to board.old)) (move_meant m) }
+    ensures as_before { board.new ≡ board.old }
+{
+    match m.read() {
+        Some(m) => board.is_legal(m),
+        None => false,
+    }
+}
+
+/// Whether a move is legal (FIDE Laws 3.9.2, 3.10.1); three numbers that are no move are not.
+#[unsafe(no_mangle)]
+pub extern "C" fn jatshegi_board_is_legal(
+    alloc: Kept,
+    slot: &mut Slot,
+    m: CMove,
+    legal: &mut bool,
+) -> u32
+    ensures { Asks (legal.new ≡ legal.old) (λ board code. (code ≡ 0) × (legal.new ≡ is_legal_meant (last (line_to board)) (move_meant m))) slot.old.held result slot.new.held }
+{
+    let Some(mut session) = take(slot, alloc) else {
+        return EMPTY;
+    };
+    *legal = is_legal_meant(&mut session.board, m);
+    put(slot, session, alloc);
+    OK
+}
 
 /// The game's status: 0 mate, 1 stalemate, 2 dead, 3 fivefold repetition, 4 the 75 moves, 5 play (FIDE Laws 5.1.1, 5.2.1, 5.2.2, 9.6).
 #[unsafe(no_mangle)]
@@ -427,6 +513,42 @@ pub extern "C" fn jatshegi_board_best_within(
     };
     let flag = take_stop(stop, alloc);
     let code = session.best_within(depth, within(nodes.max(1), &flag), m, value, visited);
+    put_stop(stop, flag, alloc);
+    put(slot, session, alloc);
+    code
+}
+
+/// The replies to a move that a search of 1 to 16 plies found worth the value: the best moves that follow, the line of its score. They are
+/// found within limits, as `jatshegi_board_best_within` finds the move.
+#[unsafe(no_mangle)]
+pub extern "C" fn jatshegi_board_replies(
+    alloc: Kept,
+    slot: &mut Slot,
+    m: CMove,
+    depth: u8,
+    value: i32,
+    nodes: u64,
+    stop: &mut Stop,
+    moves: &mut [CMove],
+    count: &mut usize,
+    visited: &mut u64,
+) -> u32
+    ensures replies { Asks ((count.new ≡ count.old) × (visited.new ≡ visited.old) × (moves.new ≡ moves.old)) (λ board code. IsFollowed (says_within (max nodes 1) (is_some stop.old.held)) (line_to board) (move_meant m) depth value code count.old count.new visited.old visited.new moves.old moves.new) slot.old.held result slot.new.held }
+    ensures stop { stop.new.held ≡ stop.old.held }
+{
+    let Some(session) = take(slot, alloc) else {
+        return EMPTY;
+    };
+    let flag = take_stop(stop, alloc);
+    let code = session.replies_within(
+        m,
+        depth,
+        value,
+        within(nodes.max(1), &flag),
+        moves,
+        count,
+        visited,
+    );
     put_stop(stop, flag, alloc);
     put(slot, session, alloc);
     code

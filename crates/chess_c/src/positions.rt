@@ -83,7 +83,8 @@ fn target_in(code: u8) -> Option<Option<Square>>
     }
 }
 
-fn letter_of(cell: Option<Man>) -> u8
+/// A man's letter (PGN 16.1.3.1), or 0 for nothing.
+pub fn letter_of(cell: Option<Man>) -> u8
     ensures { result ≡ letter_of cell }
 {
     match cell {

@@ -5,7 +5,8 @@ ghost use Rattle.chess_pgn.specs.Written.{game_text};
 ghost use Rattle.chess_bindings.specs.Answers.{IsLineAnswered};
 ghost use Rattle.chess_bindings.specs.Handed.{IsAnsweredBy};
 ghost use Rattle.chess_bindings.specs.Within.{says_within};
-ghost use Rattle.chess_c.specs.Asked.{IsBest, IsBestWithin};
+ghost use Rattle.chess_c.specs.Asked.{IsBest, IsBestWithin, IsFollowed};
+ghost use Rattle.chess_c.specs.Moves.{move_meant};
 ghost use Rattle.chess_c.specs.Calls.{IsLeft};
 ghost use Rattle.chess_uci.specs.Machine.{is_infinite, is_waiting, time_left};
 ghost use Rattle.chess_c.specs.Engines.{IsRepliedFrom, IsRepliedWithinFrom};
@@ -15,17 +16,17 @@ ghost use Rattle.chess_bindings.specs.Next.{LoadsNext};
 ghost use Rattle.chess_c.specs.Searches.{IsBegunFrom, SlicedFrom, SlicedWithinFrom, best_of};
 
 use crate::kept_engine::Engine;
-use crate::moves::CMove;
+use crate::moves::{CMove, hand_moves};
 use crate::search::{Search, best_of_all};
 use chess_bindings::{
-    ABANDONED, ARGUMENT, Heading, MEMORY, NONE, OK, Within, answer, cursor_line, load, load_next,
-    whole_game,
+    ABANDONED, ARGUMENT, Heading, ILLEGAL, MEMORY, NONE, OK, Within, answer, cursor_line, load,
+    load_next, whole_game,
 };
 use chess_cli::Board;
 use chess_key::KeyTable;
 use chess_loop::OutputBuffer;
 use chess_memory::{Handle, Heap, handle_to};
-use chess_search::Nodes;
+use chess_search::{Nodes, replies_within};
 use chess_tree::TreeFault;
 use chess_types::Move;
 use chess_uci::Event;
@@ -323,6 +324,42 @@ impl Session {
         *visited = nodes.nodes();
         match found {
             Some(best) => hand_best(best, m, value),
+            None => ABANDONED,
+        }
+    }
+
+    /// The replies to a move of the position at the cursor along which its value is held, unless the search for them is abandoned; on a line
+    /// of its own.
+    pub fn replies_within(
+        &self,
+        m: CMove,
+        depth: u8,
+        value: i32,
+        mut watch: Within<'_>,
+        room: &mut [CMove],
+        count: &mut usize,
+        visited: &mut u64,
+    ) -> u32
+        requires { 1 ≤ watch.nodes }
+        ensures { IsFollowed (says_within watch.entry.nodes (is_some watch.entry.flag)) (line_to self.now.board) (move_meant m) depth value result count.old count.new visited.old visited.new room.old room.new }
+    {
+        if depth < 1 || depth > 16 || value < -30000 || value > 30000 {
+            return ARGUMENT;
+        }
+        let Some(m) = m.read() else {
+            return ILLEGAL;
+        };
+        let Ok(mut line) = cursor_line(self.handle(), self.table, self.board.tree()) else {
+            return MEMORY;
+        };
+        if !line.is_legal(m) {
+            return ILLEGAL;
+        }
+        let mut nodes = Nodes::new();
+        let found = replies_within(&mut line, depth, m, value, &mut nodes, false, &mut watch);
+        *visited = nodes.nodes();
+        match found {
+            Some(moves) => hand_moves(moves.as_slice(), room, count),
             None => ABANDONED,
         }
     }

@@ -63,7 +63,11 @@ pub fn marked<'a, A: Allocator>(
     if whole {
         return text;
     }
+    let mark = mark(analysis);
+    if mark.is_empty() {
+        return text;
+    }
     let mut text = text;
-    text.push_str(mark(analysis));
+    text.push_str(mark);
     text
 }

@@ -156,6 +156,13 @@ impl<'a, F: Follower, A: Allocator> AnalysisWith<'a, F, A> {
         self.line.position()
     }
 
+    /// Makes room on the line for so many plies more, if there is memory for them, so that a game that is read asks for it once.
+    pub fn reserve(&mut self, plies: u32)
+        ensures { self.new ≡ self.old }
+    {
+        let _ = self.line.reserve(plies);
+    }
+
     // Steps to the first child that has the move, if there is one. It takes no memory.
     #[tactic(auto, using(crate::proofs::AnalysisLemmas::found_line))]
     fn follow(&mut self, m: Move) -> bool

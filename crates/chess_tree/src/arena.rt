@@ -197,7 +197,7 @@ impl<'a, A: Allocator> Arena<'a, A> {
         ensures err { OnErr result (self.new ≡ self.old) }
     {
         let here = self.here;
-        make_room(&mut self.trail, 4)?;
+        make_room(&mut self.trail, 16)?;
         let place = self.nodes.child_count(here);
         let number = put(&mut self.nodes, &mut self.free, played, here, place)?;
         if let Err(fault) = self.nodes.push_child(here, number) {

@@ -27,6 +27,9 @@ use std::alloc::{AllocError, Allocator};
 use std::marker::Model;
 use std::mem;
 
+/// The plies for which a line has room from the first move on, so that a usual game's grows twice at most.
+const ROOM: u32 = 96;
+
 /// An analysis that begins where the first move is read or the first comment is noted: a game without either costs its first position
 /// alone. Contracts see the tree and the path to the cursor.
 #[derive(Drop)]
@@ -69,9 +72,10 @@ fn begin<'a, A: Allocator>(
     let Ok(start) = start.clone() else {
         unreachable!();
     };
-    let Ok(analysis) = AnalysisWith::with(alloc, start, Nothing) else {
+    let Ok(mut analysis) = AnalysisWith::with(alloc, start, Nothing) else {
         return Err(AllocError);
     };
+    analysis.reserve(ROOM);
     match Box::new(alloc, analysis) {
         Ok(analysis) => Ok(analysis),
         Err(_) => Err(AllocError),

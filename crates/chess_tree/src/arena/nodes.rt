@@ -140,7 +140,7 @@ impl<'a, A: Allocator> Nodes<'a, A> {
         ensures ok { OnOk result (self.new ≡ self.old ++ leaf_entry played parent place ∷ []) }
         ensures err { OnErr result (self.new ≡ self.old) }
     {
-        make_room(&mut self.slots, 2)?;
+        make_room(&mut self.slots, 16)?;
         self.slots
             .push(KeptSlot::of(Slot::leaf(played, parent, place)))?;
         Ok(())
