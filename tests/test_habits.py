@@ -259,7 +259,7 @@ class Program(unittest.TestCase):
         self.assertEqual(self.ran("7k/6Q1/6K1/8/8/8/8/8 b - -").stdout.decode().splitlines()[-1], "1-0 checkmate")
         self.assertEqual(self.ran(*"7k/6Q1/6K1/8/8/8/8/8 b - - 3 4".split()).stdout.decode().splitlines()[-2], "7k/6Q1/6K1/8/8/8/8/8 b - - 3 4")
         refused = self.ran("8/8/8/8/8/8/8/8 w - - 0 1")
-        self.assertEqual((refused.returncode, refused.stdout, refused.stderr.startswith(b"jatshegi: no FEN: each side has one king")), (2, b"", True))
+        self.assertEqual((refused.returncode, refused.stdout, refused.stderr.startswith(b"jatshegi: no FEN: a side has no king, or more than one")), (2, b"", True))
 
     def test_games(self):
         text = b'1.e4 e5 *\n\n[A "b"]\n\n1. e5 *\n\n[White "c"] 1. d4 {x} 1-0'
@@ -785,7 +785,7 @@ class Examples(unittest.TestCase):
     def test_a_game_made_and_annotated(self):
         given = "e4 c5 Nf3 ! the open Sicilian\ne4 e5\n\ne4\nd4 d5 c4 dxc4 Qa4+ ?! a } b\n"
         *_, said = self.ran_with("repertoire.py", "Anna", "1", given=given)
-        self.assertIn("a comment has no right brace", said)
+        self.assertIn("the comment has a right brace", said)
         shown, _ = self.run_example("repertoire.py", "Anna", "1", given=given.replace("}", "{"))
         game = jatshegi.pgn.read_game(shown)
         self.assertEqual((game.headers["White"], sorted(node.san for node in game.variations), str(game)), ("Anna", ["d4", "e4"], shown))

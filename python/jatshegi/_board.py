@@ -25,19 +25,6 @@ if TYPE_CHECKING:
 
     from .pgn import Game
 
-_FAULTS = [
-    "it has neither four nor six fields",
-    "the men are not eight ranks of eight squares",
-    "each side has one king",
-    "no pawn stands on the first or the last rank",
-    "a side has at most 16 men",
-    "the side to move is w or b",
-    "the castling field is - or different letters of KQkq",
-    "the en passant field is - or a square",
-    "the clock and the number are decimal numbers of at most 99999",
-    "the side not to move is in check",
-]
-
 # How a game ended, as its text says, by the number of the library.
 _MARKERS = ("*", "1-0", "0-1", "1/2-1/2")
 
@@ -151,7 +138,7 @@ class Board(Core, Calls, Habits):
             status = c.lib.jatshegi_board_load(self._at, text, len(text), byref(used))
             if status:
                 self._made[:] = made
-        if status == c.NO_GAME or status > c.PGN:
+        if status == c.NO_GAME or status >= c.PGN_TOKEN:
             raise _fault(status, used.value)
         if status:
             raise self._fail(status, "a game")
@@ -223,8 +210,8 @@ class Board(Core, Calls, Habits):
             status = c.lib.jatshegi_board_set(self._at, text, len(text))
             if status:
                 self._made[:] = made
-            if status > c.FEN:
-                raise InvalidFenError(fen, status - c.FEN, _FAULTS[status - c.FEN - 1])
+            if status >= c.FEN_FIELDS:
+                raise InvalidFenError(fen, status - c.FEN_FIELDS + 1, c.SENTENCES[status])
             if status:
                 raise self._fail(status, fen)
 

@@ -66,17 +66,15 @@ class Calls:
         if status == c.EMPTY:
             return EmptyBoardError("there is no board: its memory was given back, or it was never begun")
         if status == c.NO_MEMORY:
-            return MemoryError("no memory")
+            return MemoryError(c.SENTENCES[status])
         if status == c.ILLEGAL:
             return IllegalMoveError(f"not legal here: {what} in {self.fen()}")
         if status == c.AMBIGUOUS:
             return AmbiguousMoveError(f"more than one legal move: {what} in {self.fen()}")
         if status == c.FORM:
             return InvalidMoveError(f"no form of a move: {what!r}")
-        if status == c.TOO_LONG:
-            return LimitError("the line has 20,000 plies")
-        if status == c.FULL:
-            return LimitError("the game holds 1,000,000 moves")
+        if status in (c.TOO_LONG, c.FULL):
+            return LimitError(c.SENTENCES[status])
         if status == c.AT_ROOT:
             return IndexError("no move has been made")
         return Error(f"{what!r}: status {status}")

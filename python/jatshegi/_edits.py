@@ -142,7 +142,7 @@ class Edits:
             text = comment.encode(board.encoding, "surrogateescape")
             status = board._status(c.lib.jatshegi_board_comment, text, len(text))
             if status == c.BAD_COMMENT:
-                raise ValueError(f"a comment has no right brace: {comment!r}")
+                raise ValueError(f"{c.SENTENCES[status]}: {comment!r}")
             if status:
                 raise board._fail(status, comment)
         for nag in nags:

@@ -130,7 +130,7 @@ def _lines(room: "ctypes.Array[c_char]", count: c_size_t) -> List[str]:
 def _answered(status: int) -> None:
     """A status other than OK is an error."""
     if status == c.NO_MEMORY:
-        raise MemoryError("no memory")
+        raise MemoryError(c.SENTENCES[c.NO_MEMORY])
     if status == c.EMPTY:
         raise EmptyBoardError("there is no session: its memory was given back, or it was never begun")
     if status:

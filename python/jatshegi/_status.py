@@ -4,16 +4,18 @@ from __future__ import annotations
 import enum
 from typing import Dict, NamedTuple, Optional
 
+from . import _made as c
+
 
 class Status(enum.IntEnum):
     """A game's status: the first of these that holds (FIDE Laws 5.1.1, 5.2.1, 5.2.2, 9.6)."""
 
-    CHECKMATE = 0
-    STALEMATE = 1
-    DEAD_POSITION = 2
-    FIVEFOLD_REPETITION = 3
-    SEVENTYFIVE_MOVES = 4
-    PLAY = 5
+    CHECKMATE = c.MATE
+    STALEMATE = c.STALEMATE
+    DEAD_POSITION = c.DEAD
+    FIVEFOLD_REPETITION = c.FIVEFOLD
+    SEVENTYFIVE_MOVES = c.SEVENTYFIVE
+    PLAY = c.PLAY
 
 
 class Termination(enum.Enum):

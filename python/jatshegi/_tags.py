@@ -9,11 +9,7 @@ from . import _library as c
 if TYPE_CHECKING:
     from ._board import Board
 
-_REFUSALS = {
-    c.TAG_NAME: "a tag's name has letters, digits and underscores, at least one",
-    c.TAG_OWN: "the game itself has its result and its start: `marker` and `set_fen` say them",
-    c.TAG_VALUE: "a tag's value is on one line",
-}
+_REFUSALS = (c.TAG_NAME, c.TAG_OWN, c.TAG_VALUE)
 
 
 class Tags(MutableMapping[str, str]):
@@ -71,7 +67,7 @@ class Tags(MutableMapping[str, str]):
     def _change(self, name: str, function: Callable[..., int], *words: object) -> None:
         status = self._board._status(function, *words)
         if status in _REFUSALS:
-            raise ValueError(f"{_REFUSALS[status]}: {name!r}")
+            raise ValueError(f"{c.SENTENCES[status]}: {name!r}")
         if status:
             raise self._board._fail(status, name)
 

@@ -61,25 +61,10 @@ _T = TypeVar("_T")
 # What is called with the repairs of a game that was saved.
 _Repaired = Callable[[List["Repair"]], object]
 
-_FAULTS = [
-    "these bytes are no token",
-    "this is no tag",
-    "this names no legal move, or more than one",
-    "a variation doesn't fit here",
-    "more than 128 variations are within one another",
-    "the text ends within the game",
-    "the tag FEN spells no position",
-    "",
-    "the game is larger than 1,048,576 bytes or 20,000 plies",
-]
-# The kinds of repairs, by their numbers (`enum jatshegi_repair_kind`).
-_REPAIRS = (
-    "TagQuotes TagBracket TagName Castling Hyphen Colon Pawn Small Large Promotion Sign Said Value Result Glyphs Number Dots Space Control Stray Offer Angles "
-    "Bracket Marker Symbol Nested Comment Unclosed Prose Fen Squares Null Illegal Unreadable Variation"
-).split()
 # The tags of a game's start.
 _STARTS = ("FEN", "SetUp")
 _MARKERS = ("*", "1-0", "0-1", "1/2-1/2")
+
 
 class Headers(MutableMapping[str, str]):
     """The tags of a game by their names, as the game has them at each moment. They can be set and taken out (PGN 8.1).
@@ -515,7 +500,7 @@ def _fault(status: int, place: int) -> Exception:
         return MemoryError("no memory for a game")
     if status == c.NO_GAME:
         return InvalidGameError(place, 6, "there is no game")
-    return InvalidGameError(place, status - c.PGN, _FAULTS[status - c.PGN - 1])
+    return InvalidGameError(place, status - c.PGN_TOKEN + 1, c.SENTENCES[status])
 
 
 # No answer about a game hangs on bytes that are further from its beginning, with three of a byte order mark, and more for a game that is repaired; and how
@@ -604,7 +589,7 @@ class _Texts:
             self._repairs = (c.CRepair * max(len(self._repairs), number.value))()
         begin = self.before + self._at
         self._at += used.value
-        repaired([Repair(begin + it.place, _REPAIRS[it.kind], it.length, it.written) for it in self._repairs[: number.value]])
+        repaired([Repair(begin + it.place, c.REPAIRS[it.kind], it.length, it.written) for it in self._repairs[: number.value]])
         return ctypes.string_at(self._room, count.value)
 
     # What a status raises, once the bytes of a game that can't be read have been passed over.
@@ -750,7 +735,7 @@ def read_game(source: Union[str, bytes, IO[Any]], *, encoding: Optional[str] = N
     >>> jatshegi.pgn.read_game("1. e5 *")
     Traceback (most recent call last):
     ...
-    jatshegi.InvalidGameError: no game: at byte 3, this names no legal move, or more than one
+    jatshegi.InvalidGameError: no game: at byte 3, a word that names no legal move, or more than one
     >>> import io
     >>> with io.StringIO("1. e4 * 1. d4 *") as file:
     ...     while game := jatshegi.pgn.read_game(file):
