@@ -53,7 +53,7 @@ class ThePartInC(unittest.TestCase):
     def test_it_has_what_ctypes_has(self):
         from jatshegi import _core
 
-        for name in (it for it in vars(_core.Plain) if not it.startswith("__") and it not in ("_slot", "_moves", "_step_back", "_checking", "_at")):
+        for name in (it for it in vars(_core.Plain) if not it.startswith("__") and it not in ("_slot", "_moves", "_step_back", "_at")):
             self.assertTrue(hasattr(_core.FAST.Core, name), name)
             wanted, found = getattr(_core.Plain, name, None).__doc__, getattr(_core.FAST.Core, name).__doc__
             if not name.startswith("_"):

@@ -150,7 +150,9 @@ class Plain:
     @property
     def turn(self) -> bool:
         """The colour of the side to move: WHITE or BLACK."""
-        return WHITE if self._position().side == 0 else BLACK
+        side = c_uint8()
+        self._call(c.lib.jatshegi_board_turn, "turn", byref(side))
+        return WHITE if side.value == 0 else BLACK
 
     def _men(self) -> bytes:
         return bytes(self._position().men)
@@ -266,19 +268,23 @@ class Plain:
         self._call(c.lib.jatshegi_board_write, move, numbers_of(move), text, c.MOST_SAN, byref(count))
         return text.raw[: count.value].decode()
 
-    # Of each square, whether a man on it gives check.
-    def _checking(self, what: str) -> bytes:
-        found = _Squares()
-        self._call(c.lib.jatshegi_board_checks, what, found)
-        return bytes(found)
+    def is_legal(self, move: Move) -> bool:
+        """Whether the move is legal."""
+        legal = c_bool()
+        self._call(c.lib.jatshegi_board_is_legal, move, numbers_of(move), byref(legal))
+        return legal.value
 
     def is_check(self) -> bool:
         """Whether the side to move is in check (FIDE Laws 3.9.1)."""
-        return 1 in self._checking("is_check")
+        check = c_bool()
+        self._call(c.lib.jatshegi_board_in_check, "is_check", byref(check))
+        return check.value
 
     # The word of 64 bits of the men that give check.
     def _checks(self) -> int:
-        return sum(checks << square for square, checks in enumerate(self._checking("checkers")) if checks)
+        found = _Squares()
+        self._call(c.lib.jatshegi_board_checks, "checkers", found)
+        return sum(checks << square for square, checks in enumerate(found) if checks)
 
     # The word of the men that attack a square: 0 to 63 for those of White, 64 more for those of Black.
     def _attacks(self, which: int) -> int:
@@ -308,7 +314,8 @@ def _found() -> Any:
         _fast: Any = module_from_spec(spec)
     except ImportError:
         return None
-    names = ("play", "undo", "move", "moves", "line", "read", "write", "checks", "attackers", "outcome", "position", "fen", "kinds", "free")
+    names = ("play", "undo", "move", "moves", "line", "read", "write", "checks", "attackers", "outcome", "position", "fen", "kinds")
+    names += ("turn", "in_check", "is_legal", "free")
     _fast.begin({name: cast(getattr(c.lib, f"jatshegi_board_{name}"), c_void_p).value for name in names}, Move, Error, LegalMoves)
     return _fast
 

@@ -20,7 +20,8 @@
 
 /* Each function that is called: its name without `jatshegi_board_`. */
 #define FUNCTIONS(each) \
-    each(play) each(undo) each(move) each(moves) each(line) each(read) each(write) each(checks) each(attackers) each(outcome) each(position) each(fen) each(kinds)
+    each(play) each(undo) each(move) each(moves) each(line) each(read) each(write) each(checks) each(attackers) each(outcome) each(position) each(fen) each(kinds) \
+    each(turn) each(in_check) each(is_legal)
 
 #define POINTER(name) static __typeof__(&jatshegi_board_##name) lib_##name;
 FUNCTIONS(POINTER)
@@ -385,6 +386,14 @@ static PyObject *core_kinds(Core *self, PyObject *word) {
     return status ? failed(self, status, word) : PyLong_FromUnsignedLong(kinds);
 }
 
+static PyObject *core_is_legal(Core *self, PyObject *word) {
+    struct jatshegi_move move;
+    bool legal;
+    if (numbers((PyObject *)self, word, &move)) return NULL;
+    CALL(lib_is_legal(&self->board, move, &legal));
+    return status ? failed(self, status, word) : PyBool_FromLong(legal);
+}
+
 static PyObject *core_fen(Core *self, PyObject *unused) {
     char text[JATSHEGI_MOST_FEN];
     size_t length;
@@ -394,11 +403,10 @@ static PyObject *core_fen(Core *self, PyObject *unused) {
 }
 
 static PyObject *core_is_check(Core *self, PyObject *unused) {
-    uint8_t checks[64];
+    bool check;
     (void)unused;
-    CALL(lib_checks(&self->board, checks));
-    if (status) return failed_at(self, status, "is_check");
-    return PyBool_FromLong(memchr(checks, 1, sizeof checks) != NULL);
+    CALL(lib_in_check(&self->board, &check));
+    return status ? failed_at(self, status, "is_check") : PyBool_FromLong(check);
 }
 
 /* The word of 64 bits of the men that give check. */
@@ -437,10 +445,10 @@ static PyObject *core_men(Core *self, PyObject *unused) {
 }
 
 static PyObject *core_turn(Core *self, void *unused) {
-    struct jatshegi_position position;
+    uint8_t side;
     (void)unused;
-    CALL(lib_position(&self->board, &position));
-    return status ? failed_at(self, status, "turn") : PyBool_FromLong(position.side == JATSHEGI_WHITE);
+    CALL(lib_turn(&self->board, &side));
+    return status ? failed_at(self, status, "turn") : PyBool_FromLong(side == JATSHEGI_WHITE);
 }
 
 static PyObject *core_address(Core *self, void *unused) {
@@ -480,6 +488,7 @@ static PyMethodDef core_methods[] = {
     {"fen", (PyCFunction)core_fen, METH_NOARGS,
      "fen($self, /)\n--\n\nThe position's FEN, with all six fields (PGN 16.1). The en passant target is written wherever a pawn has just passed over it."},
     {"is_check", (PyCFunction)core_is_check, METH_NOARGS, "is_check($self, /)\n--\n\nWhether the side to move is in check (FIDE Laws 3.9.1)."},
+    {"is_legal", (PyCFunction)core_is_legal, METH_O, "is_legal($self, move, /)\n--\n\nWhether the move is legal."},
     {"_lend", (PyCFunction)core_lend, METH_O, NULL},
     {"_free", (PyCFunction)core_free, METH_NOARGS, NULL},
     {"_kinds", (PyCFunction)core_kinds, METH_O, NULL},
