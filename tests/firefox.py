@@ -107,6 +107,10 @@ class Firefox:
         using, value = ("css selector", f"[id='{name}']") if by == "id" else (by, name)
         return Element(self, self.call("WebDriver:FindElement", using=using, value=value))
 
+    def into(self, frame):
+        """Goes into a frame of the page, or with none back to the whole page."""
+        self.call("WebDriver:SwitchToFrame", **({"element": frame.found[ELEMENT]} if frame else {"id": None}))
+
     def set_size(self, width, height):
         self.call("WebDriver:SetWindowRect", width=width, height=height)
 

@@ -3,6 +3,7 @@
 Needs Debian's chromium, chromium-driver, python3-selenium and firefox-esr; where they are missing and can't be installed, these tests are skipped. With the word
 `pictures` (python3 -m tests.test_web pictures, from tests/: python3 test_web.py pictures) the screenshots of docs/ are made anew.
 """
+import contextlib
 import functools
 import hashlib
 import http.server
@@ -12,6 +13,7 @@ import queue
 import random
 import re
 import shutil
+import socket
 import subprocess
 import sys
 import tempfile
@@ -79,11 +81,25 @@ def wants_browser():
         raise unittest.SkipTest(f"these packages are missing: {' '.join(PACKAGES)}")
 
 
+class Server(http.server.ThreadingHTTPServer):
+    # (a page asks for all of its modules at once)
+    request_queue_size = 128
+
+
 def serve(folder, handler=Handler, port=0):
     """Serves the folder to this machine, and returns the server, which `stop` ends."""
-    it = http.server.ThreadingHTTPServer(("127.0.0.1", port), functools.partial(handler, directory=folder))
+    it = Server(("127.0.0.1", port), functools.partial(handler, directory=folder))
     threading.Thread(target=it.serve_forever, daemon=True).start()
     return it
+
+
+@contextlib.contextmanager
+def port_held(port):
+    """Keeps a port for a server that is to come back there, from one that was stopped: meanwhile a connection is refused, and no other program is given the port."""
+    with socket.socket() as it:
+        it.setsockopt(socket.SOL_SOCKET, socket.SO_REUSEADDR, 1)
+        it.bind(("127.0.0.1", port))
+        yield
 
 
 def stop(it):
@@ -158,16 +174,25 @@ class Page:
         if not keeps:
             self.forget()
         self.browser.get(f"http://127.0.0.1:{self.port}/{fragment}")
-        self.until(lambda: self.script("return document.documentElement.dataset.ready") == "yes", "the page is ready")
+        # (a new version that takes over loads the page anew, also while it is asked)
+        self.until(lambda: self.tried(lambda: self.script("return document.documentElement.dataset.ready")) == "yes", "the page is ready")
 
     def script(self, text, *words):
         return self.browser.execute_script(text, *words)
+
+    def tried(self, asks):
+        """What is answered; none while the page is loaded anew, which a driver may report as an error."""
+        from selenium.common.exceptions import WebDriverException
+        try:
+            return asks()
+        except (WebDriverException, AssertionError):
+            return None
 
     def until(self, holds, what):
         end = time.monotonic() + PATIENCE
         while not holds():
             if time.monotonic() > end:
-                raise AssertionError(f"never: {what}; moves '{self.moves}', status '{self.text('status')}', told '{self.text('told')}'")
+                raise AssertionError(f"never: {what() if callable(what) else what}; moves '{self.moves}', status '{self.text('status')}', told '{self.text('told')}'")
             time.sleep(0.02)
 
     def at(self, name):
@@ -466,12 +491,20 @@ class InTheBrowser(unittest.TestCase):
         with tempfile.NamedTemporaryFile(suffix=".pgn") as file:
             file.write("".join(games).encode())
             file.flush()
+            # (the page itself clicks, as soon as the first game is there and five are listed: a test that looks now and then may come too late)
+            page.script("""
+                const here = () => document.getElementById('moves').textContent.includes('e4') && document.querySelectorAll('#games button')[4];
+                const watch = new MutationObserver(() => {
+                  if (!here()) return;
+                  watch.disconnect();
+                  window.early = document.getElementById('howmany').textContent;
+                  here().click();
+                });
+                for (const name of ['games', 'moves']) watch.observe(document.getElementById(name), { childList: true, subtree: true });
+            """)
             page.at("file").send_keys(file.name)
-            page.until(lambda: page.moves.startswith("1. e4"), "the first game is loaded")
-            page.until(lambda: page.script("return document.querySelectorAll('#games button').length") > 5, "the list is begun")
-            early = page.text("howmany")
-            self.browser.find_elements(By.CSS_SELECTOR, "#games button")[4].click()
             page.until(lambda: page.moves.startswith("1. d4"), "the fifth game is loaded")
+            early = page.script("return window.early")
             page.type("san", "Nf3")
             page.until(lambda: "1. Nf3" in page.moves, "a move is made")
             page.until(lambda: page.text("howmany").startswith(f"{count} games"), "the file is read")
@@ -1305,7 +1338,7 @@ class TheFiles(unittest.TestCase):
     def test_the_page_is_small(self):
         with open(f"{WEB}/offline.js", encoding="utf-8") as file:
             names = re.findall(r"^  '(.+)': 'sha256", file.read(), re.M)
-        self.assertLess(sum(os.path.getsize(f"{WEB}/{name}") for name in names if not name.endswith((".wasm", ".png"))), 260_000)
+        self.assertLess(sum(os.path.getsize(f"{WEB}/{name}") for name in names if not name.endswith((".wasm", ".png"))), 270_000)
 
 
 def pictures():

@@ -4,6 +4,7 @@ import re
 import shutil
 import subprocess
 import tempfile
+import time
 import unittest
 
 import firefox
@@ -93,6 +94,8 @@ UPDATE = """
       return Boolean(it.waiting);
     })().then(done, (error) => done(String(error)));
 """
+# The version that is on the page once that is ready, by its heading, and the game's moves.
+SHOWN = "return document.documentElement.dataset.ready === 'yes' ? [document.querySelector('h1').textContent, document.getElementById('moves').textContent] : null"
 
 
 class Boards:
@@ -419,18 +422,13 @@ class Boards:
         return self.browser.execute_async_script(OFFLINE)
 
     def newer_waits(self):
-        """Whether a new version is fetched; asked while the page is loaded anew, no."""
-        try:
-            return self.browser.execute_async_script(UPDATE)
-        except Exception:
-            return False
+        """Whether a new version is fetched and waits; asked while the page is loaded anew, no."""
+        return self.page.tried(lambda: self.browser.execute_async_script(UPDATE)) is True
 
-    def heading(self):
-        try:
-            return self.page.script("return document.documentElement.dataset.ready === 'yes' ? document.querySelector('h1').textContent : ''")
-        except Exception:
-            # (the page is loaded anew)
-            return ""
+    def shown(self):
+        """The heading and the moves; none while the page is loaded anew."""
+        heading, moves = self.page.tried(lambda: self.page.script(SHOWN)) or ("", "")
+        return heading, " ".join(moves.split())
 
     def changes(self, folder, name, old, new):
         with open(f"{folder}/{name}", encoding="utf-8") as file:
@@ -440,54 +438,182 @@ class Boards:
             file.write(text.replace(old, new))
 
     def again(self, page):
-        self.until_kept()
+        page.until(lambda: page.tried(lambda: page.script("return document.documentElement.dataset.kept")) == "yes", "all is kept")
         self.browser.get("about:blank")
         page.open(keeps=True)
 
+    def version(self, name, of, changes, later=()):
+        """A folder with the page of another one and its list, with changes: a file, a text there and the one in its place. Those that come `later` the list doesn't know."""
+        folder = f"{self.folder}/{name}"
+        shutil.copytree(of, folder)
+        for it in changes:
+            self.changes(folder, *it)
+        subprocess.run([f"{runs.TOP}/tools/offline", folder], check=True)
+        for it in later:
+            self.changes(folder, *it)
+        return folder
+
+    def put(self, link, folder):
+        """Has the server give another folder from now on, all of it at once."""
+        os.symlink(folder, f"{link} new")
+        os.replace(f"{link} new", link)
+
     def test_the_page_opens_without_a_net_and_a_new_version_replaces_it(self):
-        folder = f"{self.folder}/web"
-        shutil.copytree(test_web.WEB, folder)
-        it, had = test_web.serve(folder), self.page
+        first, link = self.version("first", test_web.WEB, []), f"{self.folder}/web"
+        self.put(link, first)
+        it, had = test_web.serve(link), self.page
         page = type(self).page = test_web.Page(self.browser, it)
         try:
             page.open()
             page.until(lambda: self.offline()[2], "the page is kept")
             names, files, _, is_waiting = self.offline()
-            with open(f"{folder}/offline.js", encoding="utf-8") as file:
+            with open(f"{first}/offline.js", encoding="utf-8") as file:
                 listed = re.findall(r"^  '(.*)': 'sha256-", file.read(), re.M)
             self.assertEqual((len(names), files, is_waiting), (1, [listed], False))
             page.play("e4")
             test_web.stop(it)
+            with test_web.port_held(it.server_port):
+                self.again(page)
+                self.assertEqual(page.moves, "1. e4")
+                page.click("analyse")
+                page.until(lambda: page.script("return document.querySelectorAll('#lines li').length"), "the engine thinks, too")
+                page.click("analyse")
+                page.play("e5")
+                # a new version is fetched, and is there at the next visit
+                newer = self.version("newer", first, [("index.html", "<h1>Jatshegi</h1>", "<h1>Newer</h1>")])
+                self.put(link, newer)
+                it = test_web.serve(link, port=it.server_port)
             self.again(page)
-            self.assertEqual(page.moves, "1. e4")
-            page.click("analyse")
-            page.until(lambda: page.script("return document.querySelectorAll('#lines li').length"), "the engine thinks, too")
-            page.click("analyse")
-            page.play("e5")
-            # a new version is fetched, and is there at the next visit
-            self.changes(folder, "index.html", "<h1>Jatshegi</h1>", "<h1>Newer</h1>")
-            subprocess.run([f"{runs.TOP}/tools/offline", folder], check=True)
-            it = test_web.serve(folder, port=it.server_port)
+            # (it may be there at this visit, where the browser was quick to fetch it)
+            page.until(lambda: self.newer_waits() or self.shown()[0] == "Newer", "a new version waits")
             self.again(page)
-            page.until(lambda: self.newer_waits() or self.heading() == "Newer", "a new version waits")
-            self.again(page)
-            page.until(lambda: self.heading() == "Newer" and page.moves == "1. e4 e5", "the new version is there, with the game")
-            newer = self.offline()[0]
-            self.assertTrue(len(newer) == 1 and newer != names, newer)
+            page.until(lambda: self.shown() == ("Newer", "1. e4 e5"), lambda: f"the new version is there, with the game: {self.shown()}, {page.tried(self.offline)}")
+            kept = self.offline()[0]
+            self.assertTrue(len(kept) == 1 and kept != names, kept)
             # one of which a file is not as its list says is not taken
-            self.changes(folder, "index.html", "<h1>Newer</h1>", "<h1>Newest</h1>")
-            subprocess.run([f"{runs.TOP}/tools/offline", folder], check=True)
-            self.changes(folder, "words.js", "Checkmate", "Matt")
+            self.put(link, self.version("newest", newer, [("index.html", "<h1>Newer</h1>", "<h1>Newest</h1>")], [("words.js", "Checkmate", "Matt")]))
             self.assertIs(self.browser.execute_async_script(UPDATE), False)
             # (the browser may try it once more by itself)
-            page.until(lambda: self.offline()[0] == newer, "nothing of it is kept")
+            page.until(lambda: self.offline()[0] == kept, "nothing of it is kept")
             test_web.stop(it)
-            self.again(page)
-            self.assertEqual((self.heading(), page.moves), ("Newer", "1. e4 e5"))
+            with test_web.port_held(it.server_port):
+                self.again(page)
+                self.assertEqual(self.shown(), ("Newer", "1. e4 e5"))
         finally:
             type(self).page = had
             self.browser.get("about:blank")
             test_web.stop(it)
+
+    def test_the_page_is_kept_though_a_file_is_not_had_at_once(self):
+        class Handler(test_web.Handler):
+            left = 2
+
+            def do_GET(self):
+                if self.path == "/icon-512.png" and Handler.left:
+                    Handler.left -= 1
+                    self.close_connection = True
+                    return
+                super().do_GET()
+
+        it, had = test_web.serve(test_web.WEB, Handler), self.page
+        page = type(self).page = test_web.Page(self.browser, it)
+        try:
+            page.open()
+            page.until(lambda: self.offline()[2], "the page is kept")
+            self.assertEqual(Handler.left, 0)
+        finally:
+            type(self).page = had
+            self.browser.get("about:blank")
+            test_web.stop(it)
+
+    def test_a_page_whose_version_was_replaced_as_it_began_is_loaded_anew(self):
+        """Once: here no other version comes, and the page stays as it is then."""
+        it, had = test_web.serve(test_web.WEB), self.page
+        page = type(self).page = test_web.Page(self.browser, it)
+        begun = "return performance.getEntriesByType('navigation')[0].type"
+        try:
+            page.open()
+            page.until(lambda: self.offline()[2], "the page is kept")
+            self.assertEqual(page.script(begun), "navigate")
+            self.browser.execute_async_script("""
+                const done = arguments[0];
+                (async () => {
+                  for (const it of await caches.keys()) await caches.delete(it);
+                  await caches.open('jatshegi another');
+                })().then(done, done);
+            """)
+            self.again(page)
+            page.until(lambda: page.tried(lambda: page.script(begun)) == "reload" and self.shown()[0] == "Jatshegi", "it is loaded anew")
+            page.play("e4")
+            time.sleep(0.5)
+            self.assertEqual((self.shown(), page.script(begun)), (("Jatshegi", "1. e4"), "reload"))
+        finally:
+            type(self).page = had
+            self.browser.get("about:blank")
+            test_web.stop(it)
+
+    def into(self, selector=None):
+        """Goes into a frame of the page, or back to the whole page."""
+        if isinstance(self.browser, firefox.Firefox):
+            self.browser.into(selector and self.page.found(selector))
+        elif selector:
+            self.browser.switch_to.frame(self.page.found(selector))
+        else:
+            self.browser.switch_to.default_content()
+
+    def beside(self, server, name, where="append"):
+        """Adds a frame with a page of that server, and waits for it."""
+        self.browser.execute_async_script("""
+            const [address, where, done] = arguments;
+            const it = document.createElement('iframe');
+            Object.assign(it, { src: address, width: 800, height: 700, onload: () => done(true) });
+            document.body[where](it);
+        """, f"http://127.0.0.1:{server.server_port}/{name}", where)
+
+    def test_a_new_version_takes_over_once_no_other_window_has_the_old_one(self):
+        """Two windows, here in frames of a page of another server: the one asks for the new version, and the other goes."""
+        first, link, around = self.version("old", test_web.WEB, []), f"{self.folder}/two", tempfile.mkdtemp(dir=self.folder)
+        self.put(link, first)
+        with open(f"{around}/index.html", "w", encoding="utf-8") as file:
+            file.write("<!DOCTYPE html><title>Around</title>")
+        it, outer, had = test_web.serve(link), test_web.serve(around), self.page
+        page = type(self).page = test_web.Page(self.browser, it)
+        try:
+            page.open()
+            page.until(lambda: self.offline()[2], "the page is kept")
+            self.browser.get(f"http://127.0.0.1:{outer.server_port}/")
+            self.beside(it, "about.html")
+            self.beside(it, "")
+            self.into("iframe:last-child")
+            page.until(lambda: self.shown()[0] == "Jatshegi", "the page is there")
+            self.put(link, self.version("new", first, [("index.html", "<h1>Jatshegi</h1>", "<h1>Newer</h1>")]))
+            page.until(self.newer_waits, "a new version waits")
+            page.script("window.had = true")
+            for is_touched in (True, False):
+                page.script("setTimeout(() => location.reload(), 0)")
+                page.until(lambda: page.tried(lambda: page.script("return !window.had")) and self.shown()[0] == "Jatshegi", "the old version is there again")
+                page.script("window.had = true")
+                if is_touched:
+                    page.script("const it = document.getElementById('pgn'); it.value = '1. e4'; it.dispatchEvent(new Event('input', { bubbles: true }))")
+                # (the new version is asked for several times meanwhile)
+                time.sleep(1)
+                self.assertEqual((self.shown()[0], self.newer_waits()), ("Jatshegi", True))
+                self.into()
+                page.script("document.querySelector('iframe').remove()")
+                self.into("iframe:last-child")
+                if is_touched:
+                    time.sleep(1)
+                    self.assertEqual((self.shown()[0], page.script("return document.getElementById('pgn').value")), ("Jatshegi", "1. e4"))
+                    self.into()
+                    self.beside(it, "about.html", "prepend")
+                    self.into("iframe:last-child")
+            page.until(lambda: self.shown()[0] == "Newer", lambda: f"the new version is there: {self.shown()}, {page.tried(self.offline)}")
+        finally:
+            self.into()
+            type(self).page = had
+            self.browser.get("about:blank")
+            for each in (it, outer):
+                test_web.stop(each)
 
     # ---- In a frame.
 

@@ -7,7 +7,7 @@ import { drawMoves, drawPlayers, drawStatus, drawTags, marksHere, pathAt, saidHe
 import { editing } from './editor.js';
 import { choose, download, listAgain, markOpened, read, readWhole, saveBack, showCollection } from './files.js';
 import { begin, drawn, exported, fileName, game, isSettled, lines, mark, page, playTyped, redo, settled, stepped, doing, undo, unmark } from './game.js';
-import { keepOffline } from './kept.js';
+import { keepOffline, renewed } from './kept.js';
 import { faultOf, isEmbedded, keepLink, linkNow, linked, openLink } from './link.js';
 import { shown, toBytes } from './jatshegi/src/bytes.js';
 import { styled } from './jatshegi/src/look.js';
@@ -344,4 +344,7 @@ const main = async () => {
 // For who looks on, from the console or a test.
 globalThis.jatshegi = { game, exported: async () => shown(exported()), settled, pathAt, canUndo, canRedo };
 
-main().catch((error) => lacks(`The board could not be begun: ${error.message}. Chrome and Edge from 97 on, Firefox from 114 on and Safari from 15.4 on have what it needs.`));
+main().catch(async (error) => {
+  if (await renewed().catch(() => false)) return;
+  lacks(`The board could not be begun: ${error.message}. Chrome and Edge from 97 on, Firefox from 114 on and Safari from 15.4 on have what it needs.`);
+});

@@ -1,6 +1,6 @@
 // Keeps the page's own files of one version in the browser, so that it opens without a net. A new version replaces them as a whole.
 // The list is written by tools/offline.
-const VERSION = '92e852621fde3b74';
+const VERSION = '88f2a66503fce821';
 const KEPT = {
   'about.html': 'sha256-r1CC3PSgnT3IeddTCQ+9Qc4Ht/lyiBkQBzsxB+mInYc=',
   'analysis.js': 'sha256-U5gKvR+K0hFJAKrjM/ifL9liAcnHH+FbMdFUOHSgFps=',
@@ -20,7 +20,7 @@ const KEPT = {
   'icon-192.png': 'sha256-dDBraL7vMtodXDIdT9kkB4nmtLHKDDvq75i4QBmFy1Y=',
   'icon-512.png': 'sha256-kKyDl2nv4OOxpJUmrtDtH5oAQqigmf5TT2OnNGXpHsU=',
   'icon.svg': 'sha256-MIqbBfrY8jneIrbk+mcJq7TJSYDbHm5LwjQhbWTpmWU=',
-  'index.html': 'sha256-hKEhTQfPiJx3s5WV7vi5lPpO47rClFJfzHomS1n8i+M=',
+  'index.html': 'sha256-4CxZEtSrrz/8jxA+RjqGDhlKURyKJi0bcP+gg1lupUo=',
   'jatshegi.wasm': 'sha256-sMpxIk4Jl+wIBP6vesiZ9J85AYkR9s2nWE8qNIKN15o=',
   'jatshegi/src/boards.js': 'sha256-FhM9HTDTz802BSdSGBxKyxcKhZqbAhriKB7fj7626qM=',
   'jatshegi/src/bytes.js': 'sha256-LBtpigRyCU+u7acHDGRl53R4GTPRblnbyZw1zI1KCLk=',
@@ -35,9 +35,9 @@ const KEPT = {
   'jatshegi/src/placement.js': 'sha256-tYVv38gdjVF02qg7ZhnHkVXIz6EbA+6cJslqsPCR140=',
   'jatshegi/src/spellings.js': 'sha256-4ZUgPyCZJ5j4XbOYL9JMkb+ulsYm/jMrJLyqndlE4bo=',
   'jatshegi/src/view.js': 'sha256-HZvvuC8hc5V4jywYva7qEY/bAqGf29CIiuyJJzP7nMU=',
-  'kept.js': 'sha256-vpP/bVdI8p6TCGMGRKn1e5vRVBq7u7djRam2xRtcoqM=',
+  'kept.js': 'sha256-IzmQCddu7qdeF/idl0rLm7bUYOG5NXH9IIaiKlrh5GA=',
   'link.js': 'sha256-yOY4ch4C9jWHyzEGT1ozdyWf8krTURqNMwrGeWkneLk=',
-  'main.js': 'sha256-SfEx7e1ca2W6UGm2Hpfgo+C6x3BVnpywGERNOD7WH14=',
+  'main.js': 'sha256-f+MZgu6R64VWSzM31SQEGM9cwy6huNxOU0hDelKoIq4=',
   'manifest.json': 'sha256-QAKyIQ4IOcScflN1yhydOIxNqrwWpRonHOlGu17rDhg=',
   'mine.js': 'sha256-bb4j/2IL1kqEZ6OqedtX70U1eahLRlkESSeVjzl/OUk=',
   'own.js': 'sha256-59wcSsJGCgiOu9ePaeF6DWM7VaSW5Rhqcj+D+ktElng=',
@@ -75,7 +75,8 @@ const replace = async () => {
   await clients.claim();
 };
 
-const answer = async (name, request) => (await (await caches.open(NAME)).match(at(name))) ?? fetch(request);
+// (a version that was replaced meanwhile has no files: then those of the new one go out, and the page sees that it is another)
+const answer = async (name, request) => (await caches.match(at(name), { cacheName: NAME })) ?? (await caches.match(at(name))) ?? fetch(request);
 
 addEventListener('install', (event) => event.waitUntil(keep()));
 addEventListener('activate', (event) => event.waitUntil(replace()));
