@@ -355,9 +355,9 @@ impl Session {
         if !line.is_legal(m) {
             return ILLEGAL;
         }
-        let mut nodes = Nodes::new();
-        let found = replies_within(&mut line, depth, m, value, &mut nodes, false, &mut watch);
-        *visited = nodes.nodes();
+        let mut asked = Nodes::new();
+        let found = replies_within(&mut line, depth, m, value, &mut asked, false, &mut watch);
+        *visited = asked.nodes();
         match found {
             Some(moves) => hand_moves(moves.as_slice(), room, count),
             None => ABANDONED,
