@@ -1,6 +1,6 @@
 // Keeps the page's own files of one version in the browser, so that it opens without a net. A new version replaces them as a whole.
 // The list is written by tools/offline.
-const VERSION = 'fcd178a143bd04f0';
+const VERSION = '1485640287cfe779';
 const KEPT = {
   'about.html': 'sha256-r1CC3PSgnT3IeddTCQ+9Qc4Ht/lyiBkQBzsxB+mInYc=',
   'analysis.js': 'sha256-U5gKvR+K0hFJAKrjM/ifL9liAcnHH+FbMdFUOHSgFps=',
@@ -20,16 +20,17 @@ const KEPT = {
   'icon-192.png': 'sha256-dDBraL7vMtodXDIdT9kkB4nmtLHKDDvq75i4QBmFy1Y=',
   'icon-512.png': 'sha256-kKyDl2nv4OOxpJUmrtDtH5oAQqigmf5TT2OnNGXpHsU=',
   'icon.svg': 'sha256-MIqbBfrY8jneIrbk+mcJq7TJSYDbHm5LwjQhbWTpmWU=',
-  'index.html': 'sha256-hKEhTQfPiJx3s5WV7vi5lPpO47rClFJfzHomS1n8i+M=',
+  'index.html': 'sha256-wkxcgaNgLZaue8Z70spZ4r+bOC6BcNyGpcmmWVp40/E=',
   'jatshegi.wasm': 'sha256-sMpxIk4Jl+wIBP6vesiZ9J85AYkR9s2nWE8qNIKN15o=',
-  'jatshegi/src/boards.js': 'sha256-K4MmeyCEFE27yt5c5E+54f5M3YUlgeJfrvueBTPOFR4=',
+  'jatshegi/src/boards.js': 'sha256-FhM9HTDTz802BSdSGBxKyxcKhZqbAhriKB7fj7626qM=',
   'jatshegi/src/bytes.js': 'sha256-LBtpigRyCU+u7acHDGRl53R4GTPRblnbyZw1zI1KCLk=',
   'jatshegi/src/compile.js': 'sha256-W5YCPdzEjIwsTakE2+p5y4KsZsbNwjHyMkzcXGp/evQ=',
-  'jatshegi/src/errors.js': 'sha256-1dHDKRiTmZutoLveX/EjRUwQgtCuLswLbieQhB4xB3c=',
+  'jatshegi/src/errors.js': 'sha256-CKuUAZ5GO0HdNu0l53APwn8fZOH+fhCpbA5KJW4LTIs=',
   'jatshegi/src/export.js': 'sha256-egRUhiJQJG9LhdzozicibgN07pK+fc6rtvKc39h2ZIg=',
-  'jatshegi/src/games.js': 'sha256-J0UqHFyG/GTV+F2fslXO3HOK0bY2FzoPv2fIdOnHDrQ=',
+  'jatshegi/src/games.js': 'sha256-HEPQ2DUyrYkH/71XcknI73DbdCcqUKkGq3meHkCRNjw=',
   'jatshegi/src/look.js': 'sha256-W2XnS3P/J8FitlN5a/EtzEllhO5RmJflfHp7fn2YEas=',
-  'jatshegi/src/memory.js': 'sha256-5RloICuwO8aNZ12ZdiXXUMZZ8UUXECBsqPHqqznDH9k=',
+  'jatshegi/src/made.js': 'sha256-vz+J+5g9ahn3j/F+Kbu6lyhV+TpvZHbiO/5vE3S4v9c=',
+  'jatshegi/src/memory.js': 'sha256-66uUwR11d0F5+aRs/tU3wdQsORZc/dCu4leJVzar97k=',
   'jatshegi/src/men.js': 'sha256-17V0ghxtUGEMDH+qOJh5IXcXpfSNIeXrqHYKKvJ3t9g=',
   'jatshegi/src/placement.js': 'sha256-tYVv38gdjVF02qg7ZhnHkVXIz6EbA+6cJslqsPCR140=',
   'jatshegi/src/spellings.js': 'sha256-4ZUgPyCZJ5j4XbOYL9JMkb+ulsYm/jMrJLyqndlE4bo=',
@@ -44,8 +45,8 @@ const KEPT = {
   'settings.js': 'sha256-lfnY3Lee1w8sdBUo5DpbL5zUnuORJHD/B69WyxuGQrs=',
   'store.js': 'sha256-C10zWHMq50ar1TXN97UWrl7czSU+khYnbTpapLDHo2A=',
   'style.css': 'sha256-vxT4xDmpbeNO9uBVBWrhtPvGyuN2cGWVPX5znDpTQms=',
-  'words.js': 'sha256-xt+Lm3HDUHUGqdefZCY7r8Slva7OiWe6IigsCrFqRwA=',
-  'worker.js': 'sha256-qDYKrEJ2gMk3XyQz44hOgMMYH8IvQXGED4i4BhfKsUo=',
+  'words.js': 'sha256-8CV7OdI32uu361pvtd5CmcgO1RGe10bgSn69tkxy89w=',
+  'worker.js': 'sha256-uuhKZZINdxvSaK6VAUZtktwmPl06Naw1G1cTRZnzppM=',
 };
 // (end of the list)
 

@@ -4,7 +4,7 @@ import { begin, beside, costOf, keep, line, on, placeIn, start, theMemory } from
 import { decode, fromBytes, toBytes } from './jatshegi/src/bytes.js';
 import { tagsOf, treeOf } from './jatshegi/src/export.js';
 import { entries, listed, read, salvaged } from './jatshegi/src/games.js';
-import { FAULTS, MEMORY, NONE, OK, OWN_TAG } from './jatshegi/src/memory.js';
+import { NO_GAME, NO_MEMORY, OK, PGN_TOKEN, TAG_OWN } from './jatshegi/src/made.js';
 import { typed } from './pgn.js';
 import { spellings, squares } from './jatshegi/src/spellings.js';
 import { RESULTS, SHOWN } from './words.js';
@@ -21,13 +21,13 @@ const orMemory = (action, said) => {
     return said;
   }
 };
-const NO_MEMORY = 'refused 5 Memory';
+const REFUSED = 'refused 5 Memory';
 
 // The lines that go to another node and leave the tree as it is, answered or refused.
 const STEPS = /^[ \t]*(back|step|start|end|goto)([ \t]|$)/;
 
 // The board's answer to a line; both are byte strings.
-const answer = (text) => orMemory(() => line(board, toBytes(text), STEPS.test(text) ? 0 : costOf(text)), NO_MEMORY);
+const answer = (text) => orMemory(() => line(board, toBytes(text), STEPS.test(text) ? 0 : costOf(text)), REFUSED);
 
 // ---- The game's text, which is asked for only where it may be another.
 
@@ -37,7 +37,7 @@ const changed = () => { written.isOld = true; };
 
 const writtenNow = () => {
   if (written.isOld) {
-    const pgn = orMemory(() => on(board, (session) => session.pgn()), NO_MEMORY);
+    const pgn = orMemory(() => on(board, (session) => session.pgn()), REFUSED);
     written = pgn === written.pgn ? { ...written, isOld: false } : { pgn, number: written.number + 1, start: '', isOld: false };
   }
   return written;
@@ -93,14 +93,14 @@ const first = (bytes) => {
   const { status, used } = orMemory(() => {
     const [at, length] = theMemory().put(bytes).map(Number);
     return read((session) => session.game(at, length));
-  }, { status: MEMORY, used: 0 });
+  }, { status: NO_MEMORY, used: 0 });
   return { status, used, text: status === OK ? fromBytes(theMemory().handed()) : '' };
 };
 
 // Where a game begins after what comes before it: that is as much as the module finds no game in, if it reads the same game from there.
 const begins = (bytes, { place, length, bytes: text }) => {
   const at = Number(theMemory().put(bytes.subarray(place, place + length))[0]);
-  const isWhite = (many) => read((session) => session.game(at, many)).status === NONE;
+  const isWhite = (many) => read((session) => session.game(at, many)).status === NO_GAME;
   let white = 0;
   for (let dark = length; dark - white > 1;) {
     const middle = (white + dark) >> 1;
@@ -267,7 +267,7 @@ const older = (session, tags, result, pgn) => {
     for (const [name, value] of tags) {
       if (status !== OK) break;
       status = session.setTag(toBytes(name), toBytes(value));
-      if (status === OWN_TAG) status = OK;
+      if (status === TAG_OWN) status = OK;
     }
     if (status === OK) status = session.setResult(RESULTS.indexOf(result));
     return { status, text: status === OK ? session.pgn() : '' };
@@ -279,14 +279,14 @@ const older = (session, tags, result, pgn) => {
 // A change of the game's heading or of a move, by its status.
 const change = (action, has, cost = 0) => {
   changed();
-  const status = orMemory(() => on(board, action, cost), MEMORY);
+  const status = orMemory(() => on(board, action, cost), NO_MEMORY);
   return { status, state: state(has) };
 };
 
 const jobs = {
   start({ module }) {
     start(module);
-    return orMemory(() => ({ status: OK, state: state() }), { status: MEMORY, state: null });
+    return orMemory(() => ({ status: OK, state: state() }), { status: NO_MEMORY, state: null });
   },
 
   // The answers to lines, one after another up to one that is refused, and how the board then is.
@@ -309,7 +309,7 @@ const jobs = {
   begin({ lines: [text], has }) {
     changed();
     let said = beside().line(toBytes(text));
-    if (said === 'ok') said = orMemory(() => (begin(board, beside().pgnBytes()).status === OK ? said : NO_MEMORY), NO_MEMORY);
+    if (said === 'ok') said = orMemory(() => (begin(board, beside().pgnBytes()).status === OK ? said : REFUSED), REFUSED);
     return { answers: [said], state: state(has) };
   },
 
@@ -348,14 +348,14 @@ const jobs = {
 
   // The text of a game of which an earlier page kept the tags and the result beside the moves that the board wrote: `{status, text}`.
   older({ tags, result, pgn }) {
-    return orMemory(() => read((session) => older(session, tags, result, pgn)), { status: MEMORY, text: '' });
+    return orMemory(() => read((session) => older(session, tags, result, pgn)), { status: NO_MEMORY, text: '' });
   },
 
   // The text's first game comes on the board, the cursor at the node with that path.
   load({ bytes, path = '-', has }) {
     const game = first(bytes);
     if (game.status === OK) return jobs.restore({ bytes: bytes.subarray(0, game.used), path, has });
-    return { ...game, where: game.status > FAULTS ? faultAt(bytes, 0, game.status - FAULTS, placeIn(bytes, game.used)) : null };
+    return { ...game, where: game.status >= PGN_TOKEN ? faultAt(bytes, 0, game.status - PGN_TOKEN + 1, placeIn(bytes, game.used)) : null };
   },
 
   // The first game of a text that can't be read, as far as the module saves it: its export form, the names of its repairs, and whether a move is left; null where nothing is.
@@ -367,7 +367,7 @@ const jobs = {
   // The game of a text which the board wrote comes on the board, the cursor at that path.
   restore({ bytes, path, has }) {
     changed();
-    const found = orMemory(() => begin(board, bytes), { status: MEMORY, used: 0 });
+    const found = orMemory(() => begin(board, bytes), { status: NO_MEMORY, used: 0 });
     if (found.status !== OK) return found;
     if (path !== '-') answer(`goto ${path}`);
     return { ...found, state: state(has) };

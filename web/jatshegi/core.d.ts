@@ -3,8 +3,11 @@ export type PieceSymbol = 'p' | 'n' | 'b' | 'r' | 'q' | 'k';
 /** `a1` to `h8`. */
 export type Square = `${'a' | 'b' | 'c' | 'd' | 'e' | 'f' | 'g' | 'h'}${1 | 2 | 3 | 4 | 5 | 6 | 7 | 8}`;
 export interface Piece { type: PieceSymbol; color: Color }
+// tools/calls writes the following lines from tools/tables.
 export type Status = 'mate' | 'stalemate' | 'dead' | 'fivefold' | 'seventyfive' | 'play';
 export type Claim = 'threefold' | 'fifty';
+export type Result = '*' | '1-0' | '0-1' | '1/2-1/2';
+// (end of these lines)
 /** For the side to move: centipawns, or in how many of its moves it mates (below 0: is mated by the other's). */
 export type Score = { cp: number } | { mate: number };
 /** The text of a move, standard or long algebraic, or its squares. */
@@ -12,7 +15,6 @@ export type MoveLike = string | { from: string; to: string; promotion?: string }
 export interface Place { byte: number; line: number; column: number }
 /** A sign after a move. */
 export type Suffix = '!' | '?' | '!!' | '!?' | '?!' | '??';
-export type Result = '*' | '1-0' | '0-1' | '1/2-1/2';
 
 export declare const DEFAULT_POSITION: string;
 export declare const WHITE: 'w';

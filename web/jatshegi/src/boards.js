@@ -1,7 +1,8 @@
 // Many boards in one module. A board has a session of its own while it is used; where there are many, those that weren't used for longest are kept as their texts,
 // which the module wrote and reads again as the same games.
-import { FAULTS, MEMORY, Memory, NONE, OK, Session } from './memory.js';
-import { ChessError, FAULT_NAMES, SAYS, noMemory, strange } from './errors.js';
+import { Memory, Session } from './memory.js';
+import { NAMES, NO_GAME, NO_MEMORY, OK, PGN_TOKEN } from './made.js';
+import { ChessError, SAYS, noMemory, strange } from './errors.js';
 import { decode, encode, isCompiled } from './bytes.js';
 
 // The sizes of what a session is lent. A board goes into the next before it may need more: a text of it is written from its session, and that takes memory, too.
@@ -136,7 +137,7 @@ const loaded = (session, text, path) => {
     const isThere = found.status === OK && (path === '-' || session.line(`goto ${path}`) === 'ok');
     if (isThere) return found;
     giveBack(session);
-    return found.status === OK ? { ...found, status: MEMORY } : found;
+    return found.status === OK ? { ...found, status: NO_MEMORY } : found;
   } catch (error) {
     giveBack(session);
     throw error;
@@ -156,7 +157,7 @@ const settle = (kept, { text, path }, least = 0) => {
       Object.assign(kept, { session, away: null, heap: place, weight, stays: false });
       live.add(kept);
     }
-    if (found.status !== MEMORY) return found;
+    if (found.status !== NO_MEMORY) return found;
     if (place + 1 === HEAPS.length) throw noMemory();
   }
 };
@@ -250,8 +251,8 @@ export const placeIn = (bytes, at, first = { line: 1, byte: 0 }) => {
 
 /** The error of a text at whose start no game is, by the status of the call. */
 export const faultOf = (status, place) => {
-  if (status === NONE) return new ChessError('NoGame', 'no game: the text is white');
-  if (status <= FAULTS) return strange('a text', status);
-  const code = FAULT_NAMES[status - FAULTS - 1];
-  return new ChessError(code, `line ${place.line}, column ${place.column}: ${SAYS[code]}`, { number: status - FAULTS, place });
+  if (status === NO_GAME) return new ChessError('NoGame', 'no game: the text is white');
+  if (status < PGN_TOKEN) return strange('a text', status);
+  const code = NAMES[status];
+  return new ChessError(code, `line ${place.line}, column ${place.column}: ${SAYS[code]}`, { number: status - PGN_TOKEN + 1, place });
 };

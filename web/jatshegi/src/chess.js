@@ -4,14 +4,13 @@ import { ChessError, noMemory, refusal, strange } from './errors.js';
 import { FRESH, begin, beside, costOf, faultOf, keep, lay, line, on, placeIn, readers, theMemory } from './boards.js';
 import { laidOut, tagsOf, treeOf, Node } from './export.js';
 import { entries } from './games.js';
-import { ARGUMENT, AT_ROOT, BAD_NAME, BAD_VALUE, MEMORY, NONE, OK, OWN_TAG } from './memory.js';
+import { ARGUMENT, AT_ROOT, MARKERS, NAMES as FAULTS, NO_GAME, NO_MEMORY, OK, SENTENCES, TAG_NAME, TAG_OWN, TAG_VALUE } from './made.js';
 import { menOf, pieceOf, placedOf } from './move.js';
 import { NAMES, colorOf, lineOf, meant, meantStrictly, movesOf, squareOf, tried } from './questions.js';
 import { search } from './search.js';
 
 export const DEFAULT_POSITION = 'rnbqkbnr/pppppppp/8/8/8/8/PPPPPPPP/RNBQKBNR w KQkq - 0 1';
 const EMPTY = '8/8/8/8/8/8/8/8 w - - 0 1';
-const MARKERS = ['*', '1-0', '0-1', '1/2-1/2'];
 const MOST_DEEP = 16;
 // The signs after a move, by their annotation numbers from 1 on.
 const SUFFIXES = ['!', '?', '!!', '??', '!?', '?!'];
@@ -72,12 +71,12 @@ const checkOne = (bytes) => {
   const [at, length] = theMemory().put(bytes).map(Number);
   const reader = readers();
   const one = reader.game(at, length);
-  if (one.status === MEMORY) throw noMemory();
+  if (one.status === NO_MEMORY) throw noMemory();
   if (one.status !== OK) throw faultOf(one.status, placeIn(bytes, one.used));
   const next = reader.game(at + one.used, length - one.used);
-  if (next.status === MEMORY) throw noMemory();
+  if (next.status === NO_MEMORY) throw noMemory();
   if (next.status === OK) throw new ChessError('Many', 'more than one game: read them by games() or readGames()', { place: placeIn(bytes, one.used) });
-  if (next.status !== NONE) throw faultOf(next.status, placeIn(bytes, one.used + next.used));
+  if (next.status !== NO_GAME) throw faultOf(next.status, placeIn(bytes, one.used + next.used));
 };
 
 // The export form of the one game of a text, which is saved if it has to be.
@@ -86,7 +85,7 @@ const saved = (bytes, onRepair) => {
   const { value: first } = all.next();
   const { value: second } = all.next();
   all.return();
-  if (!first) throw faultOf(NONE);
+  if (!first) throw faultOf(NO_GAME);
   if (first.fault) throw first.fault;
   if (second) throw new ChessError('Many', 'more than one game: read them by games() or readGames()', { place: placeIn(bytes, first.game.length) });
   if (first.repairs.length) onRepair(first.repairs);
@@ -730,14 +729,9 @@ export class Chess {
     this._own().version++;
     if (status === OK) return;
     this._own().version--;
-    const says = {
-      [ARGUMENT]: ['Result', 'no result, which is *, 1-0, 0-1 or 1/2-1/2'],
-      [BAD_NAME]: ['TagName', 'no name of a tag'],
-      [OWN_TAG]: ['OwnTag', 'the game itself has what this tag says'],
-      [BAD_VALUE]: ['TagValue', 'a value is one line'],
-    }[status];
-    if (!says) throw strange('a tag', status);
-    throw new ChessError(says[0], `${says[1]}: ${name}`);
+    if (status === ARGUMENT) throw new ChessError('Result', `the result is none of ${MARKERS.join(', ')}: ${name}`);
+    if (![TAG_NAME, TAG_OWN, TAG_VALUE].includes(status)) throw strange('a tag', status);
+    throw new ChessError(FAULTS[status], `${SENTENCES[FAULTS[status]]}: ${name}`);
   }
 
   setHeader(name, value) {

@@ -3,7 +3,7 @@ import { bytesOf, decode, encode, fromBytes, isBytes } from './bytes.js';
 import { faultOf, placeIn, readers, theMemory } from './boards.js';
 import { noMemory, strange } from './errors.js';
 import { headOf, tagsOf, treeIn, treeOf } from './export.js';
-import { FAULTS, MEMORY, MORE, NONE, OK, OUTCOMES } from './memory.js';
+import { MARKERS, MORE, NO_GAME, NO_MEMORY, OK, OUTCOMES, PGN_TOKEN, REPAIRS } from './made.js';
 
 const FIRST = 1 << 19;
 const MOST = 1 << 30;
@@ -15,13 +15,6 @@ const [LINE_FEED, RETURN, SPACE, BRACKET] = [10, 13, 32, 91];
 // A word or two after an empty line have this number of bytes, with those of both line ends, and what follows them up to whitespace.
 const FIRST_WORDS = 7;
 
-// The kinds of repairs by their numbers.
-const REPAIRS = (
-  'TagQuotes TagBracket TagName Castling Hyphen Colon Pawn Small Large Promotion Sign Said Value Result Glyphs Number Dots Space Control Stray Offer Angles '
-  + 'Bracket Marker Symbol Nested Comment Unclosed Prose Fen Squares Null Illegal Unreadable Variation'
-).split(' ');
-
-const MARKERS = ['*', '1-0', '0-1', '1/2-1/2'];
 const SIDES = [null, 'w', 'b'];
 
 /** What `action` answers of the session for games, with more memory where it wants some. */
@@ -29,7 +22,7 @@ export const read = (action) => {
   let session = readers();
   for (;;) {
     const answer = action(session);
-    if (answer.status !== MEMORY) return answer;
+    if (answer.status !== NO_MEMORY) return answer;
     if (session.heap >= MOST) throw noMemory();
     session = readers(4 * session.heap);
   }
@@ -54,8 +47,8 @@ export const reportOf = (bytes) => {
 // The game at the start of a text in the memory, saved where it can be: `{bytes, used, repairs}`; `{end: true}` where none comes any more, null where it can't.
 const savedAt = (at, length) => {
   const { status, used, repairs } = read((session) => session.salvage(at, length));
-  if (status === NONE) return { end: true };
-  if (status > FAULTS) return null;
+  if (status === NO_GAME) return { end: true };
+  if (status >= PGN_TOKEN) return null;
   if (status !== OK) throw strange('jatshegi_game_salvage', status);
   return { bytes: theMemory().handed().slice(), used, repairs: repairs.map(({ kind, ...more }) => ({ name: REPAIRS[kind], ...more })) };
 };
@@ -127,11 +120,11 @@ const tagsAt = (at, length, result) => {
     const { tags, end } = tagsOf(text);
     if (many === length || treeIn(text.slice(end)).children.length > 0) return tags.map(([name, value]) => [name, name === 'Result' ? result : value]);
   }
-  throw strange('jatshegi_game_read', NONE);
+  throw strange('jatshegi_game_read', NO_GAME);
 };
 
 // What a call answers of the last bytes of a text, where at a fault there is to be said how many bytes to pass over.
-const ofLast = (session, at, length, found) => (found.status > FAULTS ? session.next(at, length, true) : found);
+const ofLast = (session, at, length, found) => (found.status >= PGN_TOKEN ? session.next(at, length, true) : found);
 
 // How what is next in a text is read: `{status, used}` with how many bytes to pass over to what follows, and what is kept of a game. Its export form:
 const TEXTS = {
@@ -220,15 +213,15 @@ class Reader {
     const found = read((session) => this.form.asks(session, at, length, this.isEnded));
     const { byte } = this.passed;
     if (found.status === OK) return this.#game(this.form.keeps(found, at, byte, this.count));
-    if (found.status === MORE || (found.status > FAULTS && this.saves && !this.isEnded && length < DECIDED)) {
+    if (found.status === MORE || (found.status >= PGN_TOKEN && this.saves && !this.isEnded && length < DECIDED)) {
       this.tries = length;
       return null;
     }
-    if (found.status === NONE) {
+    if (found.status === NO_GAME) {
       this.#pass(length);
       return { end: true };
     }
-    if (found.status <= FAULTS) throw strange('a game', found.status);
+    if (found.status < PGN_TOKEN) throw strange('a game', found.status);
     const saved = this.saves || (this.form.hasNoEnd && this.isEnded && length <= MOST_AT_END) ? savedAt(at, length) : null;
     if (saved?.end) {
       this.#pass(length);

@@ -1,6 +1,7 @@
 // The module in WebAssembly, whose functions are those of include/jatshegi.h: its memory, and boards in it. Nothing here knows chess; each status is looked at.
 import { encode, fromBytes } from './bytes.js';
 import { noMemory, refusal, strange } from './errors.js';
+import { AMBIGUOUS, ARGUMENT, AT_ROOT, CLAIMS, FORM, ILLEGAL, KINDS, MORE, MOST_MOVES, NEVER, NO_GAME, NO_MEMORY, NO_ROOM, NO_SUCH, OK, OUTCOMES, PGN_TOKEN, TAG_NAME, TAG_OWN, TAG_VALUE } from './made.js';
 
 const UNIT = 65536;
 const HOME = 4096;
@@ -18,39 +19,15 @@ const REPORT = 64;
 const LENDS = 112;
 const CELLS = 128;
 const REPAIR = 32;
-// The bytes of a move, and how many of them there are at most: that are legal, and in a line.
+// The bytes of a move, and how many moves there are at most in a line.
 const A_MOVE = 3;
-const MOST_MOVES = 432;
 const MOST_PLIES = 20_000;
 
 const SQUARES = [1, 2, 3, 4, 5, 6, 7, 8].flatMap((rank) => [...'abcdefgh'].map((file) => file + rank));
 const PROMOTIONS = ['', 'n', 'b', 'r', 'q'];
 
-export const OK = 0;
-export const MEMORY = 2;
-export const ILLEGAL = 3;
-export const AMBIGUOUS = 4;
-export const FORM = 5;
-export const AT_ROOT = 8;
-export const ARGUMENT = 9;
-export const ROOM = 10;
-export const NO_SUCH = 12;
-export const MORE = 14;
-export const NONE = 16;
-export const BAD_NAME = 18;
-export const OWN_TAG = 19;
-export const BAD_VALUE = 20;
-export const FAULTS = 40;
-
 // Why a text names no legal move, as the board's lines say it.
 const NAMES_NONE = new Map([[FORM, 'refused 1 Form'], [ILLEGAL, 'refused 2 Illegal'], [AMBIGUOUS, 'refused 3 Ambiguous']]);
-
-const NEVER = 4294967295;
-
-/** A game's status, by the module's number of it; the draws that may be claimed, and what sort of move one is, by their bits. */
-export const OUTCOMES = ['mate', 'stalemate', 'dead', 'fivefold', 'seventyfive', 'play'];
-const CLAIMS = ['threefold', 'fifty'];
-const KINDS = ['capture', 'enPassant', 'kingSide', 'queenSide', 'pawn'];
 
 const namesOf = (bits, names) => names.filter((_, i) => (bits >> i) & 1);
 
@@ -186,7 +163,7 @@ export class Session {
 
   // Want of memory is thrown, and each status but those that a call here can have.
   #done(name, status, others = []) {
-    if (status === MEMORY) throw noMemory();
+    if (status === NO_MEMORY) throw noMemory();
     if (status !== OK && !others.includes(status)) throw strange(name, status);
     return status;
   }
@@ -216,7 +193,7 @@ export class Session {
     for (;;) {
       const { at, size } = memory.answers;
       const status = memory.exports[name](this.slot, ...words, BigInt(at), BigInt(size), memory.cell(COUNT));
-      if (status !== ROOM) return status;
+      if (status !== NO_ROOM) return status;
       memory.larger('answers', 2 * Math.max(size, memory.number(COUNT)));
     }
   }
@@ -361,14 +338,14 @@ export class Session {
   /** Begins with the position of a FEN; whether it spells one. */
   sets(fen) {
     const status = this.memory.exports.jatshegi_board_set(this.slot, ...this.memory.put(fen));
-    if (status === MEMORY) throw noMemory();
+    if (status === NO_MEMORY) throw noMemory();
     return status === OK;
   }
 
   /** Begins with the position of a FEN; one that is refused (a counter past the last) is refused as by the board's line. */
   set(fen) {
     const status = this.memory.exports.jatshegi_board_set(this.slot, ...this.memory.put(fen));
-    if (status !== OK && status !== MEMORY) throw refusal(this.line(`set ${fen}`), `set ${fen}`);
+    if (status !== OK && status !== NO_MEMORY) throw refusal(this.line(`set ${fen}`), `set ${fen}`);
     this.#done('jatshegi_board_set', status);
   }
 
@@ -439,7 +416,7 @@ export class Session {
     const [at, length] = this.memory.put(all);
     const first = BigInt(name.length);
     const status = this.memory.exports.jatshegi_board_set_tag(this.slot, at, first, at + first, length - first);
-    return this.#done('jatshegi_board_set_tag', status, [BAD_NAME, OWN_TAG, BAD_VALUE]);
+    return this.#done('jatshegi_board_set_tag', status, [TAG_NAME, TAG_OWN, TAG_VALUE]);
   }
 
   clearTag(name) {
@@ -462,7 +439,7 @@ export class Session {
 
   // The status of a call that reads a text, which may be no game, or for which there may be no memory.
   #ofText(name, status) {
-    return status === MEMORY || status === NONE || status > FAULTS ? status : this.#done(name, status);
+    return status === NO_MEMORY || status === NO_GAME || status >= PGN_TOKEN ? status : this.#done(name, status);
   }
 
   /** The game at the start of the text becomes the board's: `{status, used}`, where the status may be that of a fault, or want of memory. */
@@ -479,7 +456,7 @@ export class Session {
       const status = memory.exports.jatshegi_game_read(
         this.#lender(), BigInt(at), BigInt(length), BigInt(answers.at), BigInt(answers.size), memory.cell(COUNT), memory.cell(USED),
       );
-      if (status !== ROOM) return { status: this.#ofText('jatshegi_game_read', status), used: memory.number(USED) };
+      if (status !== NO_ROOM) return { status: this.#ofText('jatshegi_game_read', status), used: memory.number(USED) };
       memory.larger('answers', 2 * Math.max(answers.size, memory.number(COUNT)));
     }
   }
@@ -495,11 +472,11 @@ export class Session {
         memory.cell(USED),
       );
       const used = memory.number(USED);
-      if (status !== ROOM && status !== OK) return { status: this.#ofText('jatshegi_game_salvage', status), used, repairs: [] };
+      if (status !== NO_ROOM && status !== OK) return { status: this.#ofText('jatshegi_game_salvage', status), used, repairs: [] };
       const many = memory.number(FLAG);
       if (status === OK && many <= places) return { status, used, repairs: Array.from({ length: many }, (_, i) => memory.repair(repairs.at + REPAIR * i)) };
       if (many > places) memory.larger('repairs', REPAIR * many);
-      if (status === ROOM) memory.larger('answers', 2 * Math.max(answers.size, memory.number(COUNT)));
+      if (status === NO_ROOM) memory.larger('answers', 2 * Math.max(answers.size, memory.number(COUNT)));
     }
   }
 
