@@ -50,15 +50,22 @@ class Tables(unittest.TestCase):
 
     def test_the_text_of_each_call_lists_its_codes(self):
         """A comment stands for one call or for several, and lists the codes of all of them."""
-        blocks = []
-        for call in self.tables.calls:
-            blocks.append((call.text, [call])) if call.text else blocks[-1][1].append(call)
         names = {CALLS.full(word) for word in self.tables.kind(*CALLS.CODES)}
-        for text, calls in blocks:
+        for text, calls in CALLS.blocks(self.tables):
             with self.subTest(call=calls[0].name):
                 codes = {re.sub(r"(FEN|PGN)_.*", r"\1", code) for call in calls for code in call.codes}
                 told = {re.sub(r"(FEN|PGN)_.*", r"\1", it) for it in re.findall(r"\b[A-Z]{2}[A-Z_]*(?:\.\.\.)?", text) if it in names or it in ("FEN_...", "PGN_...")}
                 self.assertLessEqual(codes, told)
+
+
+class Constants(unittest.TestCase):
+    """The table of words beside the constants of crates/chess_bindings."""
+
+    def test_another_number_is_named(self):
+        tables = CALLS.Tables()
+        self.assertEqual(list(CALLS.against_constants(tables)), [])
+        next(word for word in tables.words if word["name"] == "no_game")["number"] = "15"
+        self.assertEqual(list(CALLS.against_constants(tables)), ["NO_GAME: crates/chess_bindings has 16, words.csv has 15"])
 
 
 class Exports(unittest.TestCase):

@@ -1,8 +1,6 @@
-"""The manual's pages on the functions for C are what the header says, and each function is on one of them."""
+"""Each function of the header is on one page of the manual, and has its version in the shared library. (tests/test_calls.py compares the texts.)"""
 import os
 import re
-import subprocess
-import tempfile
 import unittest
 
 import runs
@@ -14,15 +12,6 @@ def read(path):
 
 
 class Manual(unittest.TestCase):
-    def test_the_pages_are_those_of_the_header(self):
-        with tempfile.TemporaryDirectory() as folder:
-            subprocess.run([f"{runs.TOP}/tools/manual", folder], check=True)
-            names = sorted(os.listdir(folder))
-            self.assertEqual(names, sorted(name for name in os.listdir(f"{runs.TOP}/man") if name.startswith("jatshegi_")))
-            for name in names:
-                with self.subTest(page=name), open(f"{folder}/{name}", encoding="utf-8") as file:
-                    self.assertEqual(file.read(), read(f"man/{name}"), "make them anew: tools/manual")
-
     def test_each_function_is_on_one_page(self):
         functions = re.findall(r"^(?:void|uint32_t) (jatshegi_\w+)\(", read("include/jatshegi.h"), re.M)
         pages = "".join(read(f"man/{name}") for name in os.listdir(f"{runs.TOP}/man") if name.startswith("jatshegi_"))

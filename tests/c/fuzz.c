@@ -17,6 +17,7 @@
 #include <sys/mman.h>
 #include <unistd.h>
 
+#include "calls.h"
 #include "jatshegi.h"
 
 void *__real_malloc(size_t size);
@@ -386,24 +387,8 @@ static size_t compose(enum text kind) {
 
 /* ---- The calls: what each takes, the bytes of its outputs (count, used, others), what it changes, what it may answer. ---- */
 
-#define BIT(value) (UINT64_C(1) << (value))
-#define OK BIT(JATSHEGI_OK)
-#define EMPTY (OK | BIT(JATSHEGI_EMPTY))
-#define MEMORY BIT(JATSHEGI_NO_MEMORY)
-#define ROOM BIT(JATSHEGI_NO_ROOM)
-#define NONE BIT(JATSHEGI_NONE)
-#define ILLEGAL BIT(JATSHEGI_ILLEGAL)
-#define FORM BIT(JATSHEGI_FORM)
-#define NAMED (ILLEGAL | FORM | BIT(JATSHEGI_AMBIGUOUS))
-#define AT_ROOT BIT(JATSHEGI_AT_ROOT)
-#define ARGUMENT BIT(JATSHEGI_ARGUMENT)
-#define NO_SUCH BIT(JATSHEGI_NO_SUCH)
-#define DEEP (BIT(JATSHEGI_TOO_LONG) | BIT(JATSHEGI_FULL))
-#define GONE BIT(JATSHEGI_ABANDONED)
-#define FENS (BIT(JATSHEGI_FEN_IN_CHECK + 1) - BIT(JATSHEGI_FEN_FIELDS))
-#define PGNS (BIT(JATSHEGI_PGN_FEN + 1) - BIT(JATSHEGI_PGN_TOKEN) + BIT(JATSHEGI_PGN_TOO_LARGE))
-#define NO_GAME BIT(JATSHEGI_NO_GAME)
-#define TAGS (BIT(JATSHEGI_TAG_NAME) | BIT(JATSHEGI_TAG_OWN) | BIT(JATSHEGI_TAG_VALUE))
+#define ANSWERS_status_text 0
+#define ANSWERS_repair_text 0
 
 /* Which outputs there are: a room of units of `size` bytes, its count, the bytes used; the sizes of up to three others. */
 #define UNITS(size) {size, true, false, {0}}
@@ -418,96 +403,96 @@ static size_t compose(enum text kind) {
 #define M sizeof(struct jatshegi_move)
 
 #define CALLS(X) \
-    X(version, NO_TEXT, NOTHING, 0, OK, jatshegi_version() == JATSHEGI_VERSION_NUMBER ? JATSHEGI_OK : 63) \
-    X(status_text, NO_TEXT, NOTHING, 0, OK, *jatshegi_status_text((uint32_t)a.number) ? JATSHEGI_OK : 63) \
-    X(repair_text, NO_TEXT, NOTHING, 0, OK, \
+    X(version, NO_TEXT, NOTHING, 0, jatshegi_version() == JATSHEGI_VERSION_NUMBER ? JATSHEGI_OK : 63) \
+    X(status_text, NO_TEXT, NOTHING, 0, *jatshegi_status_text((uint32_t)a.number) ? JATSHEGI_OK : 63) \
+    X(repair_text, NO_TEXT, NOTHING, 0, \
       (jatshegi_repair_text((uint32_t)a.number) == NULL) == ((uint32_t)a.number > JATSHEGI_REPAIR_VARIATION) ? JATSHEGI_OK : 63) \
-    X(keys_fill, NO_TEXT, OUT(sizeof(struct jatshegi_keys), 0, 0), 0, OK, jatshegi_keys_fill(a.out[0])) \
-    X(board_new, NO_TEXT, NOTHING, ALL, OK | MEMORY, jatshegi_board_new(keys, a.board)) \
-    X(board_copy, NO_TEXT, NOTHING, 0, EMPTY | MEMORY, jatshegi_board_copy(a.board, a.other)) \
-    X(board_free, NO_TEXT, NOTHING, ALL, OK, (jatshegi_board_free(a.small < 16 ? NULL : a.board), JATSHEGI_OK)) \
-    X(board_trim, NO_TEXT, NOTHING, 0, EMPTY, jatshegi_board_trim(a.board)) \
-    X(board_set, FEN, NOTHING, TREE | CURSOR, EMPTY | MEMORY | FENS, jatshegi_board_set(a.board, a.text, a.length)) \
-    X(board_set_position, POSITION, NOTHING, TREE | CURSOR, EMPTY | MEMORY | FENS, jatshegi_board_set_position(a.board, (void *)a.text)) \
-    X(board_load, GAME, USED, TREE | CURSOR, EMPTY | MEMORY | NO_GAME | PGNS, jatshegi_board_load(a.board, a.text, a.length, a.used)) \
-    X(board_load_next, GAME, USED, TREE | CURSOR, EMPTY | MEMORY | NO_GAME | PGNS | BIT(JATSHEGI_MORE), jatshegi_board_load_next(a.board, a.text, a.length, a.flag, a.used)) \
-    X(board_fen, NO_TEXT, UNITS(1), 0, EMPTY | ROOM, jatshegi_board_fen(a.board, a.room, a.size, a.count)) \
-    X(board_epd, NO_TEXT, UNITS(1), 0, EMPTY | ROOM, jatshegi_board_epd(a.board, a.room, a.size, a.count)) \
-    X(board_key, NO_TEXT, OUT(8, 0, 0), 0, EMPTY, jatshegi_board_key(a.board, a.out[0])) \
-    X(board_position, NO_TEXT, OUT(sizeof(struct jatshegi_position), 0, 0), 0, EMPTY, jatshegi_board_position(a.board, a.out[0])) \
-    X(board_moves, NO_TEXT, UNITS(M), 0, EMPTY | ROOM, jatshegi_board_moves(a.board, a.room, a.size, a.count)) \
-    X(board_line, NO_TEXT, UNITS(M), 0, EMPTY | ROOM, jatshegi_board_line(a.board, a.room, a.size, a.count)) \
-    X(board_play, NO_TEXT, OUT(1, 0, 0), TREE | CURSOR, EMPTY | MEMORY | ILLEGAL | DEEP, jatshegi_board_play(a.board, a.move, a.out[0])) \
-    X(board_play_text, MOVE, OUT(1, 0, 0), TREE | CURSOR, EMPTY | MEMORY | NAMED | DEEP, jatshegi_board_play_text(a.board, a.text, a.length, a.out[0])) \
-    X(board_back, NO_TEXT, NOTHING, CURSOR, EMPTY | AT_ROOT, jatshegi_board_back(a.board)) \
-    X(board_undo, NO_TEXT, NOTHING, TREE | CURSOR, EMPTY | AT_ROOT, jatshegi_board_undo(a.board, a.flag)) \
-    X(board_read, MOVE, OUT(M, 0, 0), 0, EMPTY | NAMED, jatshegi_board_read(a.board, a.text, a.length, a.out[0])) \
-    X(board_write, NO_TEXT, UNITS(1), 0, EMPTY | ILLEGAL | ROOM, jatshegi_board_write(a.board, a.move, a.room, a.size, a.count)) \
-    X(move_write, NO_TEXT, UNITS(1), 0, OK | ROOM | ARGUMENT, jatshegi_move_write(a.move, a.room, a.size, a.count)) \
-    X(move_read, MOVE, OUT(M, 0, 0), 0, OK | FORM, jatshegi_move_read(a.text, a.length, a.out[0])) \
-    X(board_outcome, NO_TEXT, OUT(4, 0, 0), 0, EMPTY, jatshegi_board_outcome(a.board, a.out[0])) \
-    X(board_claims, NO_TEXT, OUT(4, 0, 0), 0, EMPTY, jatshegi_board_claims(a.board, a.out[0])) \
-    X(board_claims_with, NO_TEXT, OUT(4, 0, 0), 0, EMPTY | ILLEGAL, jatshegi_board_claims_with(a.board, a.move, a.out[0])) \
-    X(board_repetitions, NO_TEXT, OUT(4, 0, 0), 0, EMPTY, jatshegi_board_repetitions(a.board, a.out[0])) \
-    X(board_kinds, NO_TEXT, OUT(4, 0, 0), 0, EMPTY | ILLEGAL, jatshegi_board_kinds(a.board, a.move, a.out[0])) \
-    X(board_cannot_mate, NO_TEXT, OUT(1, 0, 0), 0, EMPTY | ARGUMENT, jatshegi_board_cannot_mate(a.board, a.little, a.out[0])) \
-    X(board_checks, NO_TEXT, OUT(64, 0, 0), 0, EMPTY, jatshegi_board_checks(a.board, a.out[0])) \
-    X(board_counts, NO_TEXT, OUT(64, 64, 0), 0, EMPTY, jatshegi_board_counts(a.board, a.out[0], a.out[1])) \
-    X(board_attackers, NO_TEXT, OUT(8, 0, 0), 0, EMPTY | ARGUMENT, jatshegi_board_attackers(a.board, a.little, a.small, a.out[0])) \
-    X(book_find, BOOK, OUT(8, 8, 0), 0, OK, (jatshegi_book_find(a.text, a.length, a.number, a.out[0], a.out[1]), JATSHEGI_OK)) \
-    X(board_book_move, BOOK, OUT(M, 2, 4), 0, EMPTY | ILLEGAL | ARGUMENT, \
+    X(keys_fill, NO_TEXT, OUT(sizeof(struct jatshegi_keys), 0, 0), 0, jatshegi_keys_fill(a.out[0])) \
+    X(board_new, NO_TEXT, NOTHING, ALL, jatshegi_board_new(keys, a.board)) \
+    X(board_copy, NO_TEXT, NOTHING, 0, jatshegi_board_copy(a.board, a.other)) \
+    X(board_free, NO_TEXT, NOTHING, ALL, (jatshegi_board_free(a.small < 16 ? NULL : a.board), JATSHEGI_OK)) \
+    X(board_trim, NO_TEXT, NOTHING, 0, jatshegi_board_trim(a.board)) \
+    X(board_set, FEN, NOTHING, TREE | CURSOR, jatshegi_board_set(a.board, a.text, a.length)) \
+    X(board_set_position, POSITION, NOTHING, TREE | CURSOR, jatshegi_board_set_position(a.board, (void *)a.text)) \
+    X(board_load, GAME, USED, TREE | CURSOR, jatshegi_board_load(a.board, a.text, a.length, a.used)) \
+    X(board_load_next, GAME, USED, TREE | CURSOR, jatshegi_board_load_next(a.board, a.text, a.length, a.flag, a.used)) \
+    X(board_fen, NO_TEXT, UNITS(1), 0, jatshegi_board_fen(a.board, a.room, a.size, a.count)) \
+    X(board_epd, NO_TEXT, UNITS(1), 0, jatshegi_board_epd(a.board, a.room, a.size, a.count)) \
+    X(board_key, NO_TEXT, OUT(8, 0, 0), 0, jatshegi_board_key(a.board, a.out[0])) \
+    X(board_position, NO_TEXT, OUT(sizeof(struct jatshegi_position), 0, 0), 0, jatshegi_board_position(a.board, a.out[0])) \
+    X(board_moves, NO_TEXT, UNITS(M), 0, jatshegi_board_moves(a.board, a.room, a.size, a.count)) \
+    X(board_line, NO_TEXT, UNITS(M), 0, jatshegi_board_line(a.board, a.room, a.size, a.count)) \
+    X(board_play, NO_TEXT, OUT(1, 0, 0), TREE | CURSOR, jatshegi_board_play(a.board, a.move, a.out[0])) \
+    X(board_play_text, MOVE, OUT(1, 0, 0), TREE | CURSOR, jatshegi_board_play_text(a.board, a.text, a.length, a.out[0])) \
+    X(board_back, NO_TEXT, NOTHING, CURSOR, jatshegi_board_back(a.board)) \
+    X(board_undo, NO_TEXT, NOTHING, TREE | CURSOR, jatshegi_board_undo(a.board, a.flag)) \
+    X(board_read, MOVE, OUT(M, 0, 0), 0, jatshegi_board_read(a.board, a.text, a.length, a.out[0])) \
+    X(board_write, NO_TEXT, UNITS(1), 0, jatshegi_board_write(a.board, a.move, a.room, a.size, a.count)) \
+    X(move_write, NO_TEXT, UNITS(1), 0, jatshegi_move_write(a.move, a.room, a.size, a.count)) \
+    X(move_read, MOVE, OUT(M, 0, 0), 0, jatshegi_move_read(a.text, a.length, a.out[0])) \
+    X(board_outcome, NO_TEXT, OUT(4, 0, 0), 0, jatshegi_board_outcome(a.board, a.out[0])) \
+    X(board_claims, NO_TEXT, OUT(4, 0, 0), 0, jatshegi_board_claims(a.board, a.out[0])) \
+    X(board_claims_with, NO_TEXT, OUT(4, 0, 0), 0, jatshegi_board_claims_with(a.board, a.move, a.out[0])) \
+    X(board_repetitions, NO_TEXT, OUT(4, 0, 0), 0, jatshegi_board_repetitions(a.board, a.out[0])) \
+    X(board_kinds, NO_TEXT, OUT(4, 0, 0), 0, jatshegi_board_kinds(a.board, a.move, a.out[0])) \
+    X(board_cannot_mate, NO_TEXT, OUT(1, 0, 0), 0, jatshegi_board_cannot_mate(a.board, a.little, a.out[0])) \
+    X(board_checks, NO_TEXT, OUT(64, 0, 0), 0, jatshegi_board_checks(a.board, a.out[0])) \
+    X(board_counts, NO_TEXT, OUT(64, 64, 0), 0, jatshegi_board_counts(a.board, a.out[0], a.out[1])) \
+    X(board_attackers, NO_TEXT, OUT(8, 0, 0), 0, jatshegi_board_attackers(a.board, a.little, a.small, a.out[0])) \
+    X(book_find, BOOK, OUT(8, 8, 0), 0, (jatshegi_book_find(a.text, a.length, a.number, a.out[0], a.out[1]), JATSHEGI_OK)) \
+    X(board_book_move, BOOK, OUT(M, 2, 4), 0, \
       jatshegi_board_book_move(a.board, a.text, a.length, (size_t)a.number, a.out[0], a.out[1], a.out[2])) \
-    X(board_evaluation, NO_TEXT, OUT(4, 0, 0), 0, EMPTY, jatshegi_board_evaluation(a.board, a.out[0])) \
-    X(board_best, NO_TEXT, OUT(M, 4, 0), 0, EMPTY | ARGUMENT | NONE, jatshegi_board_best(a.board, a.depth, a.out[0], a.out[1])) \
-    X(search_start, NO_TEXT, NOTHING, SEARCH, EMPTY | MEMORY | ARGUMENT | NONE, jatshegi_search_start(a.board, a.depth)) \
-    X(search_slice, NO_TEXT, OUT(8, 0, 0), SEARCH, EMPTY | NONE, jatshegi_search_slice(a.board, a.out[0])) \
-    X(search_best, NO_TEXT, OUT(M, 4, 0), 0, EMPTY | NONE, jatshegi_search_best(a.board, a.out[0], a.out[1])) \
-    X(search_end, NO_TEXT, NOTHING, SEARCH, EMPTY, jatshegi_search_end(a.board)) \
-    X(stop_new, NO_TEXT, NOTHING, 0, OK | MEMORY, jatshegi_stop_new(a.stop)) \
-    X(stop_share, NO_TEXT, NOTHING, 0, EMPTY | MEMORY, jatshegi_stop_share(a.stop, a.other_stop)) \
-    X(stop_set, NO_TEXT, NOTHING, 0, EMPTY, jatshegi_stop_set(a.stop, a.flag)) \
-    X(stop_free, NO_TEXT, NOTHING, 0, OK, (jatshegi_stop_free(a.small < 16 ? NULL : a.stop), JATSHEGI_OK)) \
-    X(board_best_within, NO_TEXT, OUT(M, 4, 8), 0, EMPTY | MEMORY | ARGUMENT | NONE | GONE, \
+    X(board_evaluation, NO_TEXT, OUT(4, 0, 0), 0, jatshegi_board_evaluation(a.board, a.out[0])) \
+    X(board_best, NO_TEXT, OUT(M, 4, 0), 0, jatshegi_board_best(a.board, a.depth, a.out[0], a.out[1])) \
+    X(search_start, NO_TEXT, NOTHING, SEARCH, jatshegi_search_start(a.board, a.depth)) \
+    X(search_slice, NO_TEXT, OUT(8, 0, 0), SEARCH, jatshegi_search_slice(a.board, a.out[0])) \
+    X(search_best, NO_TEXT, OUT(M, 4, 0), 0, jatshegi_search_best(a.board, a.out[0], a.out[1])) \
+    X(search_end, NO_TEXT, NOTHING, SEARCH, jatshegi_search_end(a.board)) \
+    X(stop_new, NO_TEXT, NOTHING, 0, jatshegi_stop_new(a.stop)) \
+    X(stop_share, NO_TEXT, NOTHING, 0, jatshegi_stop_share(a.stop, a.other_stop)) \
+    X(stop_set, NO_TEXT, NOTHING, 0, jatshegi_stop_set(a.stop, a.flag)) \
+    X(stop_free, NO_TEXT, NOTHING, 0, (jatshegi_stop_free(a.small < 16 ? NULL : a.stop), JATSHEGI_OK)) \
+    X(board_best_within, NO_TEXT, OUT(M, 4, 8), 0, \
       jatshegi_board_best_within(a.board, a.depth, a.nodes, a.stop, a.out[0], a.out[1], a.out[2])) \
-    X(search_slice_within, NO_TEXT, OUT(8, 8, 0), SEARCH, EMPTY | NONE | GONE, jatshegi_search_slice_within(a.board, a.nodes, a.stop, a.out[0], a.out[1])) \
-    X(engine_line, EVENT, UNITS(1), SESSION, EMPTY | ROOM | MEMORY, jatshegi_engine_line(a.board, a.text, a.length, a.room, a.size, a.count)) \
-    X(engine_slice, NO_TEXT, UNITS(1), SESSION, EMPTY | ROOM | MEMORY, jatshegi_engine_slice(a.board, a.room, a.size, a.count)) \
-    X(engine_moment, NO_TEXT, UNITS(1), SESSION, EMPTY | ROOM | MEMORY, jatshegi_engine_moment(a.board, a.number, a.room, a.size, a.count)) \
-    X(engine_slice_within, NO_TEXT, SLICED, SESSION, EMPTY | ROOM | MEMORY, \
+    X(search_slice_within, NO_TEXT, OUT(8, 8, 0), SEARCH, jatshegi_search_slice_within(a.board, a.nodes, a.stop, a.out[0], a.out[1])) \
+    X(engine_line, EVENT, UNITS(1), SESSION, jatshegi_engine_line(a.board, a.text, a.length, a.room, a.size, a.count)) \
+    X(engine_slice, NO_TEXT, UNITS(1), SESSION, jatshegi_engine_slice(a.board, a.room, a.size, a.count)) \
+    X(engine_moment, NO_TEXT, UNITS(1), SESSION, jatshegi_engine_moment(a.board, a.number, a.room, a.size, a.count)) \
+    X(engine_slice_within, NO_TEXT, SLICED, SESSION, \
       jatshegi_engine_slice_within(a.board, a.nodes, a.stop, a.out[0], a.out[1], a.room, a.size, a.count)) \
-    X(engine_searching, NO_TEXT, OUT(1, 0, 0), 0, EMPTY, jatshegi_engine_searching(a.board, a.out[0])) \
-    X(engine_infinite, NO_TEXT, OUT(1, 0, 0), 0, EMPTY, jatshegi_engine_infinite(a.board, a.out[0])) \
-    X(engine_waiting, NO_TEXT, OUT(1, 0, 0), 0, EMPTY, jatshegi_engine_waiting(a.board, a.out[0])) \
-    X(engine_ended, NO_TEXT, OUT(1, 0, 0), 0, EMPTY, jatshegi_engine_ended(a.board, a.out[0])) \
-    X(engine_time_left, NO_TEXT, OUT(8, 0, 0), 0, EMPTY | NONE, jatshegi_engine_time_left(a.board, a.out[0])) \
-    X(board_pgn, NO_TEXT, UNITS(1), 0, EMPTY | MEMORY | ROOM, jatshegi_board_pgn(a.board, a.room, a.size, a.count)) \
-    X(board_tag, NAME, UNITS(1), 0, EMPTY | NO_SUCH | ROOM, jatshegi_board_tag(a.board, a.text, a.length, a.room, a.size, a.count)) \
-    X(board_tags, NO_TEXT, UNITS(1), 0, EMPTY | NO_SUCH | ROOM, jatshegi_board_tags(a.board, (size_t)a.number, a.room, a.size, a.count)) \
-    X(board_set_tag, NAME, NOTHING, TREE, EMPTY | MEMORY | TAGS, jatshegi_board_set_tag(a.board, a.text, a.length, a.more, a.more_length)) \
-    X(board_clear_tag, NAME, NOTHING, TREE, EMPTY | MEMORY, jatshegi_board_clear_tag(a.board, a.text, a.length)) \
-    X(board_result, NO_TEXT, OUT(4, 0, 0), 0, EMPTY, jatshegi_board_result(a.board, a.out[0])) \
-    X(board_set_result, NO_TEXT, NOTHING, TREE, EMPTY | ARGUMENT, jatshegi_board_set_result(a.board, (uint32_t)a.number)) \
-    X(board_step, NO_TEXT, NOTHING, CURSOR, EMPTY | NO_SUCH, jatshegi_board_step(a.board, (uint32_t)a.number)) \
-    X(board_depth, NO_TEXT, OUT(4, 0, 0), 0, EMPTY, jatshegi_board_depth(a.board, a.out[0])) \
-    X(board_children, NO_TEXT, OUT(4, 0, 0), 0, EMPTY, jatshegi_board_children(a.board, a.out[0])) \
-    X(board_move, NO_TEXT, OUT(M, 0, 0), 0, EMPTY | AT_ROOT, jatshegi_board_move(a.board, a.out[0])) \
-    X(board_comment_of, NO_TEXT, UNITS(1), 0, EMPTY | ROOM, jatshegi_board_comment_of(a.board, a.room, a.size, a.count)) \
-    X(board_annotations_of, NO_TEXT, UNITS(1), 0, EMPTY | ROOM, jatshegi_board_annotations_of(a.board, a.room, a.size, a.count)) \
-    X(board_start, NO_TEXT, NOTHING, CURSOR, EMPTY, jatshegi_board_start(a.board)) \
-    X(board_end, NO_TEXT, NOTHING, CURSOR, EMPTY, jatshegi_board_end(a.board)) \
-    X(board_promote, NO_TEXT, NOTHING, TREE, EMPTY | AT_ROOT, jatshegi_board_promote(a.board)) \
-    X(board_delete, NO_TEXT, NOTHING, TREE | CURSOR, EMPTY | AT_ROOT, jatshegi_board_delete(a.board)) \
-    X(board_comment, TALK, NOTHING, TREE, EMPTY | MEMORY | BIT(JATSHEGI_BAD_COMMENT), jatshegi_board_comment(a.board, a.text, a.length)) \
-    X(board_annotate, NO_TEXT, NOTHING, TREE, EMPTY | MEMORY | AT_ROOT, jatshegi_board_annotate(a.board, a.small)) \
-    X(board_clear_annotations, NO_TEXT, NOTHING, TREE, EMPTY | AT_ROOT, jatshegi_board_clear_annotations(a.board)) \
-    X(board_answer, COMMAND, UNITS(1), TREE | CURSOR, EMPTY | ROOM | MEMORY, jatshegi_board_answer(a.board, a.text, a.length, a.room, a.size, a.count)) \
-    X(game_read, GAME, GAMES, 0, OK | MEMORY | ROOM | NO_GAME | PGNS, jatshegi_game_read(a.text, a.length, a.room, a.size, a.count, a.used)) \
-    X(game_salvage, GAME, REPAIRED, 0, OK | MEMORY | ROOM | NO_GAME | PGNS, \
+    X(engine_searching, NO_TEXT, OUT(1, 0, 0), 0, jatshegi_engine_searching(a.board, a.out[0])) \
+    X(engine_infinite, NO_TEXT, OUT(1, 0, 0), 0, jatshegi_engine_infinite(a.board, a.out[0])) \
+    X(engine_waiting, NO_TEXT, OUT(1, 0, 0), 0, jatshegi_engine_waiting(a.board, a.out[0])) \
+    X(engine_ended, NO_TEXT, OUT(1, 0, 0), 0, jatshegi_engine_ended(a.board, a.out[0])) \
+    X(engine_time_left, NO_TEXT, OUT(8, 0, 0), 0, jatshegi_engine_time_left(a.board, a.out[0])) \
+    X(board_pgn, NO_TEXT, UNITS(1), 0, jatshegi_board_pgn(a.board, a.room, a.size, a.count)) \
+    X(board_tag, NAME, UNITS(1), 0, jatshegi_board_tag(a.board, a.text, a.length, a.room, a.size, a.count)) \
+    X(board_tags, NO_TEXT, UNITS(1), 0, jatshegi_board_tags(a.board, (size_t)a.number, a.room, a.size, a.count)) \
+    X(board_set_tag, NAME, NOTHING, TREE, jatshegi_board_set_tag(a.board, a.text, a.length, a.more, a.more_length)) \
+    X(board_clear_tag, NAME, NOTHING, TREE, jatshegi_board_clear_tag(a.board, a.text, a.length)) \
+    X(board_result, NO_TEXT, OUT(4, 0, 0), 0, jatshegi_board_result(a.board, a.out[0])) \
+    X(board_set_result, NO_TEXT, NOTHING, TREE, jatshegi_board_set_result(a.board, (uint32_t)a.number)) \
+    X(board_step, NO_TEXT, NOTHING, CURSOR, jatshegi_board_step(a.board, (uint32_t)a.number)) \
+    X(board_depth, NO_TEXT, OUT(4, 0, 0), 0, jatshegi_board_depth(a.board, a.out[0])) \
+    X(board_children, NO_TEXT, OUT(4, 0, 0), 0, jatshegi_board_children(a.board, a.out[0])) \
+    X(board_move, NO_TEXT, OUT(M, 0, 0), 0, jatshegi_board_move(a.board, a.out[0])) \
+    X(board_comment_of, NO_TEXT, UNITS(1), 0, jatshegi_board_comment_of(a.board, a.room, a.size, a.count)) \
+    X(board_annotations_of, NO_TEXT, UNITS(1), 0, jatshegi_board_annotations_of(a.board, a.room, a.size, a.count)) \
+    X(board_start, NO_TEXT, NOTHING, CURSOR, jatshegi_board_start(a.board)) \
+    X(board_end, NO_TEXT, NOTHING, CURSOR, jatshegi_board_end(a.board)) \
+    X(board_promote, NO_TEXT, NOTHING, TREE, jatshegi_board_promote(a.board)) \
+    X(board_delete, NO_TEXT, NOTHING, TREE | CURSOR, jatshegi_board_delete(a.board)) \
+    X(board_comment, TALK, NOTHING, TREE, jatshegi_board_comment(a.board, a.text, a.length)) \
+    X(board_annotate, NO_TEXT, NOTHING, TREE, jatshegi_board_annotate(a.board, a.small)) \
+    X(board_clear_annotations, NO_TEXT, NOTHING, TREE, jatshegi_board_clear_annotations(a.board)) \
+    X(board_answer, COMMAND, UNITS(1), TREE | CURSOR, jatshegi_board_answer(a.board, a.text, a.length, a.room, a.size, a.count)) \
+    X(game_read, GAME, GAMES, 0, jatshegi_game_read(a.text, a.length, a.room, a.size, a.count, a.used)) \
+    X(game_salvage, GAME, REPAIRED, 0, \
       jatshegi_game_salvage(a.text, a.length, a.room, a.size, a.count, a.out[0], REPAIRS, a.out[1], a.used)) \
-    X(game_report, GAME, REPORTED, 0, OK | MEMORY | ROOM | NO_GAME | PGNS, \
+    X(game_report, GAME, REPORTED, 0, \
       jatshegi_game_report(a.text, a.length, a.out[0], a.room, a.size, a.count, a.used)) \
-    X(game_pass, GAME, USED, 0, OK | MEMORY, jatshegi_game_pass(a.text, a.length, a.used)) \
-    X(game_next, GAME, USED, 0, OK | MEMORY | NO_GAME | BIT(JATSHEGI_MORE) | PGNS, jatshegi_game_next(a.text, a.length, a.flag, a.used))
+    X(game_pass, GAME, USED, 0, jatshegi_game_pass(a.text, a.length, a.used)) \
+    X(game_next, GAME, USED, 0, jatshegi_game_next(a.text, a.length, a.flag, a.used))
 
 struct outputs {
     size_t unit;
@@ -524,12 +509,13 @@ struct call {
     uint32_t (*made)(void);
 };
 
-#define MADE(name, text, outputs, changes, answers, expression) \
+#define MADE(name, text, outputs, changes, expression) \
     static uint32_t make_##name(void) { return (expression); }
 CALLS(MADE)
-#define NUMBER(name, text, outputs, changes, answers, expression) CALL_##name,
+#define NUMBER(name, text, outputs, changes, expression) CALL_##name,
 enum number { CALLS(NUMBER) NUMBERS };
-#define ENTRY(name, text, outputs, changes, answers, expression) {"jatshegi_" #name, text, outputs, changes, answers, make_##name},
+_Static_assert(NUMBERS == ALL_CALLS + 2, "a row for each function of calls.h, and for the two of the header itself");
+#define ENTRY(name, text, outputs, changes, expression) {"jatshegi_" #name, text, outputs, changes, BIT(JATSHEGI_OK) | ANSWERS_##name, make_##name},
 static const struct call table[] = {CALLS(ENTRY)};
 static unsigned long done[NUMBERS], refused[NUMBERS];
 
@@ -909,7 +895,7 @@ static void take_step(void) {
 /* Whether each function was done, and refused where it can be; else what was is shown. */
 static bool is_covered(void) {
     bool is_all = true;
-    for (int i = 0; i < NUMBERS; i++) is_all = is_all && done[i] && (refused[i] || table[i].answers == OK);
+    for (int i = 0; i < NUMBERS; i++) is_all = is_all && done[i] && (refused[i] || table[i].answers == BIT(JATSHEGI_OK));
     for (int i = 0; i < NUMBERS && !is_all; i++) printf("%-36s %8lu done %8lu refused\n", table[i].name, done[i], refused[i]);
     return is_all;
 }
