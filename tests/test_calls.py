@@ -48,6 +48,11 @@ class Tables(unittest.TestCase):
         self.tables.calls.append(self.tables.calls[0])
         self.assertEqual(list(self.tables.wrong()), ["jatshegi_board_new: there is no code LOST", "jatshegi_version stands twice"])
 
+    def test_a_later_call_has_a_version_of_its_own(self):
+        self.tables.calls[-1].row["since"] = "1.1"
+        text = "\n".join(CALLS.symbols(self.tables))
+        self.assertTrue(text.endswith("    *;\n};\nJATSHEGI_1.1 {\nglobal:\n    jatshegi_game_next;\n} JATSHEGI_1;"), text[-200:])
+
     def test_the_text_of_each_call_lists_its_codes(self):
         """A comment stands for one call or for several, and lists the codes of all of them."""
         names = {CALLS.full(word) for word in self.tables.kind(*CALLS.CODES)}

@@ -49,9 +49,9 @@ hello
 4k3/8/8/8/8/8/8/R3K3 w Q - 5
 '''
 LISTED = [
-    f"1. {MIDDLE}", "2. a rook; with ümlaut — bm Ra8+ O-O-O", "Line 4 can’t be read: Each side has exactly one king. “8/8/8/8/8/8/8/8 w - - 0 1”",
-    f"5. {START}", "Line 6 can’t be read: A FEN has four or six fields. “hello”", "7. 7k/8/8/8/8/8/8/K7 b - - 7 30 — c0 no men",
-    "Line 8 can’t be read: A FEN has four or six fields. “4k3/8/8/8/8/8/8/R3K3 w Q - 5”",
+    f"1. {MIDDLE}", "2. a rook; with ümlaut — bm Ra8+ O-O-O", "Line 4 can’t be read: A side has no king, or more than one. “8/8/8/8/8/8/8/8 w - - 0 1”",
+    f"5. {START}", "Line 6 can’t be read: The FEN has neither four nor six fields. “hello”", "7. 7k/8/8/8/8/8/8/K7 b - - 7 30 — c0 no men",
+    "Line 8 can’t be read: The FEN has neither four nor six fields. “4k3/8/8/8/8/8/8/R3K3 w Q - 5”",
 ]
 
 # Texts that can't be read, where the page says the fault to be, and what it shows of them.
@@ -215,14 +215,14 @@ class Boards:
         page.until(lambda: page.fen == MIDDLE, "another is opened")
         self.assertEqual(self.own(), 2)
         page.script("location.hash = 'fen=rubbish'")
-        page.until_told("The address names no position: A FEN has four or six fields.")
+        page.until_told("The address names no position: The FEN has neither four nor six fields.")
         self.assertEqual(page.fen, MIDDLE)
         page.script("document.querySelector('#own .open').click()")
         page.until_moves("1. e4 e5")
         self.until_kept()
         self.browser.get("about:blank")
         page.open("?fen=8/8/8/8/8/8/8/8_w_-_-_0_1", keeps=True)
-        page.until_told("The address names no position: Each side has exactly one king.")
+        page.until_told("The address names no position: A side has no king, or more than one.")
         self.assertEqual((page.moves, self.own()), ("1. e4 e5", 1))
 
     # ---- Lists of positions, and faults.
@@ -332,7 +332,7 @@ class Boards:
         self.page.until(lambda: (self.page.fen, self.page.text("fentold")) == (fen, said), f"{fen} is shown, and '{said}' said; {self.page.fen}, {self.page.text('fentold')}")
 
     def test_a_position_is_set_up_by_drag_by_taps_and_by_keys(self):
-        page, kings = self.page, "Each side has exactly one king."
+        page, kings = self.page, "A side has no king, or more than one."
         page.play("e4")
         page.click("editempty")
         self.until_edited("8/8/8/8/8/8/8/8 w - - 0 1", kings)
@@ -366,7 +366,7 @@ class Boards:
         self.edited("h1").click()
         self.assertEqual(self.edited("h1").get_attribute("aria-label"), "h1, white rook, chosen")
         self.edited("h8").click()
-        self.until_edited("4k2R/8/8/8/8/8/8/4K3 w - - 0 1", "The side that isn\u2019t to move is in check.")
+        self.until_edited("4k2R/8/8/8/8/8/8/4K3 w - - 0 1", "The side not to move is in check.")
         page.drag_elements(self.edited("h8"), page.at("fentold"))
         self.until_edited("4k3/8/8/8/8/8/8/4K3 w - - 0 1")
         page.script("document.querySelector('[data-edit=e1]').focus()")
@@ -397,9 +397,9 @@ class Boards:
         page.click("editk")
         self.until_edited("4k3/8/8/3pP3/8/8/8/R3K2R w KQk d6 7 33", "It is read as 4k3/8/8/3pP3/8/8/8/R3K2R w KQ d6 7 33")
         page.type("edittarget", "x", then="")
-        self.until_edited("4k3/8/8/3pP3/8/8/8/R3K2R w KQk x 7 33", "The FEN\u2019s en passant square is wrong.")
+        self.until_edited("4k3/8/8/3pP3/8/8/8/R3K2R w KQk x 7 33", "The en passant target is neither - nor a square, or no pawn has just passed over it.")
         page.at("fen").send_keys("\n")
-        page.until_told("en passant square is wrong")
+        page.until_told("The en passant target is neither")
         self.assertEqual((page.moves, page.script("return document.getElementById('fenbox').open")), ("1. e4 e5", True))
         page.type("edittarget", "d6", then="")
         self.until_edited("4k3/8/8/3pP3/8/8/8/R3K2R w KQk d6 7 33", "It is read as 4k3/8/8/3pP3/8/8/8/R3K2R w KQ d6 7 33")
@@ -660,7 +660,7 @@ class Boards:
         page.until(lambda: self.inner("return page.querySelector('[aria-current=step]')?.textContent") == "1... c5", "a variation is gone to")
         self.frame(f"?embed=1&fen={ROOK.replace(' ', '_')}&f=1", 600, 400)
         self.assertEqual((self.inner("return at('fen').value"), self.inner_moves(), self.inner("return page.querySelector('[data-square]').dataset.square")), (ROOK, "", "h1"))
-        for bad, said in (("&fen=rubbish", "The address names no position: A FEN has four or six fields."), ("#pgn=1.%20e5", f"No game: {NO_MOVE}, at line 1, column 4, move 1 of White: “e5”.")):
+        for bad, said in (("&fen=rubbish", "The address names no position: The FEN has neither four nor six fields."), ("#pgn=1.%20e5", f"No game: {NO_MOVE}, at line 1, column 4, move 1 of White: “e5”.")):
             self.frame(f"?embed=1{bad}", 600, 400)
             page.until(lambda: self.inner("return at('told').textContent") == said, f"'{said}' is said: {self.inner('return at(`told`).textContent')}")
         self.assertIn("pgn=", address)

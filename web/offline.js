@@ -1,6 +1,6 @@
 // Keeps the page's own files of one version in the browser, so that it opens without a net. A new version replaces them as a whole.
 // The list is written by tools/offline.
-const VERSION = '88f2a66503fce821';
+const VERSION = 'a95dd7cb5a5e39ce';
 const KEPT = {
   'about.html': 'sha256-r1CC3PSgnT3IeddTCQ+9Qc4Ht/lyiBkQBzsxB+mInYc=',
   'analysis.js': 'sha256-U5gKvR+K0hFJAKrjM/ifL9liAcnHH+FbMdFUOHSgFps=',
@@ -20,7 +20,7 @@ const KEPT = {
   'icon-192.png': 'sha256-dDBraL7vMtodXDIdT9kkB4nmtLHKDDvq75i4QBmFy1Y=',
   'icon-512.png': 'sha256-kKyDl2nv4OOxpJUmrtDtH5oAQqigmf5TT2OnNGXpHsU=',
   'icon.svg': 'sha256-MIqbBfrY8jneIrbk+mcJq7TJSYDbHm5LwjQhbWTpmWU=',
-  'index.html': 'sha256-4CxZEtSrrz/8jxA+RjqGDhlKURyKJi0bcP+gg1lupUo=',
+  'index.html': 'sha256-0kqff8BzXClBxWG+2+wPx1pyaCcd3O37yKOBp6DpyGg=',
   'jatshegi.wasm': 'sha256-sMpxIk4Jl+wIBP6vesiZ9J85AYkR9s2nWE8qNIKN15o=',
   'jatshegi/src/boards.js': 'sha256-FhM9HTDTz802BSdSGBxKyxcKhZqbAhriKB7fj7626qM=',
   'jatshegi/src/bytes.js': 'sha256-LBtpigRyCU+u7acHDGRl53R4GTPRblnbyZw1zI1KCLk=',
@@ -29,7 +29,7 @@ const KEPT = {
   'jatshegi/src/export.js': 'sha256-egRUhiJQJG9LhdzozicibgN07pK+fc6rtvKc39h2ZIg=',
   'jatshegi/src/games.js': 'sha256-HEPQ2DUyrYkH/71XcknI73DbdCcqUKkGq3meHkCRNjw=',
   'jatshegi/src/look.js': 'sha256-W2XnS3P/J8FitlN5a/EtzEllhO5RmJflfHp7fn2YEas=',
-  'jatshegi/src/made.js': 'sha256-A/+cvWJ56U3ZzBUVONb+nbmXtkkISBH8DJUzybuIq24=',
+  'jatshegi/src/made.js': 'sha256-vz+J+5g9ahn3j/F+Kbu6lyhV+TpvZHbiO/5vE3S4v9c=',
   'jatshegi/src/memory.js': 'sha256-66uUwR11d0F5+aRs/tU3wdQsORZc/dCu4leJVzar97k=',
   'jatshegi/src/men.js': 'sha256-17V0ghxtUGEMDH+qOJh5IXcXpfSNIeXrqHYKKvJ3t9g=',
   'jatshegi/src/placement.js': 'sha256-tYVv38gdjVF02qg7ZhnHkVXIz6EbA+6cJslqsPCR140=',
@@ -45,7 +45,7 @@ const KEPT = {
   'settings.js': 'sha256-lfnY3Lee1w8sdBUo5DpbL5zUnuORJHD/B69WyxuGQrs=',
   'store.js': 'sha256-C10zWHMq50ar1TXN97UWrl7czSU+khYnbTpapLDHo2A=',
   'style.css': 'sha256-vxT4xDmpbeNO9uBVBWrhtPvGyuN2cGWVPX5znDpTQms=',
-  'words.js': 'sha256-xt+Lm3HDUHUGqdefZCY7r8Slva7OiWe6IigsCrFqRwA=',
+  'words.js': 'sha256-8CV7OdI32uu361pvtd5CmcgO1RGe10bgSn69tkxy89w=',
   'worker.js': 'sha256-uuhKZZINdxvSaK6VAUZtktwmPl06Naw1G1cTRZnzppM=',
 };
 // (end of the list)
@@ -75,8 +75,7 @@ const replace = async () => {
   await clients.claim();
 };
 
-// (a version that was replaced meanwhile has no files: then those of the new one go out, and the page sees that it is another)
-const answer = async (name, request) => (await caches.match(at(name), { cacheName: NAME })) ?? (await caches.match(at(name))) ?? fetch(request);
+const answer = async (name, request) => (await (await caches.open(NAME)).match(at(name))) ?? fetch(request);
 
 addEventListener('install', (event) => event.waitUntil(keep()));
 addEventListener('activate', (event) => event.waitUntil(replace()));

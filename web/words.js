@@ -1,3 +1,5 @@
+import { SENTENCES } from './jatshegi/src/made.js';
+
 // The answers of the module in words, each with its article of the FIDE Laws of Chess.
 export const ROSTER = ['Event', 'Site', 'Date', 'Round', 'White', 'Black'];
 /** The tags that the page shows. */
@@ -20,13 +22,15 @@ export const STATUS = {
 export const CLAIMS_WITH = { threefold: 'a draw by threefold repetition (Article 9.2.1)', fifty: 'a draw by the 50 moves (Article 9.3.1)' };
 export const CLAIMS = { threefold: 'a draw by threefold repetition (Article 9.2.2)', fifty: 'a draw by the 50 moves (Article 9.3.2)' };
 
+// The faults of a FEN have the sentences of the library for C.
+const FENS = ['Fields', 'Placement', 'Kings', 'PawnRank', 'TooManyMen', 'Side', 'Castling', 'Target', 'Counter', 'InCheck'];
+const sentence = (text) => `${text[0].toUpperCase()}${text.slice(1).replaceAll("'", '\u2019')}.`;
+
 export const REFUSED = {
   Form: 'That isn\u2019t written as a move.', Illegal: 'That move isn\u2019t legal here.', Ambiguous: 'More than one man can make that move: say which.',
   TooLong: 'The line has 20,000 moves.', Full: 'The tree has a million moves.', NoSuch: 'There is no such move.', AtRoot: 'There is no move here to change.',
   BadComment: 'A comment can\u2019t have a closing brace: change it, or give it up by Escape.', Memory: 'There is no memory left.', Argument: 'That number is out of range.', LongLine: 'That is too long.',
-  Fields: 'A FEN has four or six fields.', Placement: 'The FEN\u2019s men are wrong.', Kings: 'Each side has exactly one king.', PawnRank: 'A pawn can\u2019t stand on the first or last rank.',
-  TooManyMen: 'A side has at most 16 men.', Side: 'The FEN\u2019s side to move is w or b.', Castling: 'The FEN\u2019s castling rights are wrong.', Target: 'The FEN\u2019s en passant square is wrong.',
-  Counter: 'The FEN\u2019s counters are wrong.', InCheck: 'The side that isn\u2019t to move is in check.',
+  ...Object.fromEntries(FENS.map((name) => [name, sentence(SENTENCES[name])])),
 };
 
 export const FAULTS = [

@@ -25,9 +25,6 @@ if TYPE_CHECKING:
 
     from .pgn import Game
 
-# How a game ended, as its text says, by the number of the library.
-_MARKERS = ("*", "1-0", "0-1", "1/2-1/2")
-
 
 class Best(NamedTuple):
     """What a search has found: the best move at a depth in plies, its value for the side to move, and how many positions all depths asked for."""
@@ -524,13 +521,13 @@ class Board(Core, Calls, Habits):
         >>> print(board.pgn().splitlines()[-2])
         1/2-1/2
         """
-        return _MARKERS[self._number(c.lib.jatshegi_board_result, "marker")]
+        return c.MARKERS[self._number(c.lib.jatshegi_board_result, "marker")]
 
     @marker.setter
     def marker(self, marker: str) -> None:
-        if not isinstance(marker, str) or marker not in _MARKERS:
-            raise ValueError(f"a game's end is one of {', '.join(_MARKERS)}: {marker!r}")
-        self._call(c.lib.jatshegi_board_set_result, marker, _MARKERS.index(marker))
+        if not isinstance(marker, str) or marker not in c.MARKERS:
+            raise ValueError(f"a game's end is one of {', '.join(c.MARKERS)}: {marker!r}")
+        self._call(c.lib.jatshegi_board_set_result, marker, c.MARKERS.index(marker))
 
     # The moves along the first children to the end; the cursor is there then.
     def _main_line(self) -> List[Move]:

@@ -121,6 +121,9 @@ SENTENCES = {
     PGN_TOO_LARGE: "more than 1,048,576 bytes, or 20,000 plies in a line",
 }
 
+# The results, by their numbers.
+MARKERS = ("*", "1-0", "0-1", "1/2-1/2")
+
 # The kinds of repair, by their numbers.
 REPAIRS = (
     "TagQuotes",

@@ -63,7 +63,6 @@ _Repaired = Callable[[List["Repair"]], object]
 
 # The tags of a game's start.
 _STARTS = ("FEN", "SetUp")
-_MARKERS = ("*", "1-0", "0-1", "1/2-1/2")
 
 
 class Headers(MutableMapping[str, str]):
@@ -430,7 +429,7 @@ class Game(Node):
         over = _ply(found.over)
         return Report(
             plies=found.plies,
-            marker=_MARKERS[found.marker],
+            marker=c.MARKERS[found.marker],
             status=Status(found.status),
             winner=(None, WHITE, BLACK)[found.winner],
             over=over,

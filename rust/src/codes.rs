@@ -1,4 +1,4 @@
-//! The errors of statuses, with the sentences of include/jatshegi.h. tools/calls writes this file from tools/tables/words.csv.
+//! The errors of statuses, with the sentences of include/jatshegi.h, and the kinds of repair. tools/calls writes this file from tools/tables/words.csv.
 use crate::error::GameError;
 
 /// Why a call was refused. The board is unchanged after it.
@@ -199,5 +199,125 @@ impl GameFault {
             GameFault::Fen => "the tag FEN spells no position",
             GameFault::TooLarge => "more than 1,048,576 bytes, or 20,000 plies in a line",
         }
+    }
+}
+
+/// The kinds of repair.
+#[derive(Clone, Copy, Debug, PartialEq, Eq, Hash)]
+#[non_exhaustive]
+pub enum RepairKind {
+    /// A tag whose value has no quotation marks or bare ones.
+    TagQuotes,
+    /// A tag without its right bracket.
+    TagBracket,
+    /// A tag whose name has other bytes than letters, digits and the underscore.
+    TagName,
+    /// Castling in small letters, in other zeros, or without hyphens.
+    Castling,
+    /// A move with a hyphen between its squares.
+    Hyphen,
+    /// A capture with a colon.
+    Colon,
+    /// A pawn's move with a P.
+    Pawn,
+    /// A man's letter that is small.
+    Small,
+    /// A file's letter that is large.
+    Large,
+    /// A promotion with another sign, or in parentheses.
+    Promotion,
+    /// A figurine, a dash or a sign of captures within a word.
+    Sign,
+    /// A word that the move says itself, as `e.p.` or `mate`.
+    Said,
+    /// A word of evaluation, for which there is an annotation number.
+    Value,
+    /// A result in another form.
+    Result,
+    /// More than two signs of annotation together, or two that aren't of the standard.
+    Glyphs,
+    /// An annotation number that isn't one from 0 to 255.
+    Number,
+    /// An ellipsis of one character.
+    Dots,
+    /// A space that isn't one of ASCII.
+    Space,
+    /// A control byte.
+    Control,
+    /// Punctuation that belongs to nothing.
+    Stray,
+    /// An offer of a draw or another letter in parentheses.
+    Offer,
+    /// A text in angle brackets.
+    Angles,
+    /// A text in square brackets within the moves.
+    Bracket,
+    /// A result within a variation.
+    Marker,
+    /// A sign that no other row has.
+    Symbol,
+    /// A comment within a comment: what comes after the inner one.
+    Nested,
+    /// A comment without its right brace.
+    Comment,
+    /// A variation without its right parenthesis.
+    Unclosed,
+    /// Text that belongs to no game.
+    Prose,
+    /// A FEN tag without its last fields, with castling rights by files, or without a position.
+    Fen,
+    /// Castling by the squares of king and rook.
+    Squares,
+    /// The rest of a line after a null move, which is cut off.
+    Null,
+    /// The rest of a line after a word that names no legal move, or more than one.
+    Illegal,
+    /// The rest of a line after what is no move.
+    Unreadable,
+    /// A variation that can't begin where it does.
+    Variation,
+}
+
+impl RepairKind {
+    /// The kind of a number.
+    pub(crate) const fn of_number(number: u32) -> Option<RepairKind> {
+        Some(match number {
+            0 => RepairKind::TagQuotes,
+            1 => RepairKind::TagBracket,
+            2 => RepairKind::TagName,
+            3 => RepairKind::Castling,
+            4 => RepairKind::Hyphen,
+            5 => RepairKind::Colon,
+            6 => RepairKind::Pawn,
+            7 => RepairKind::Small,
+            8 => RepairKind::Large,
+            9 => RepairKind::Promotion,
+            10 => RepairKind::Sign,
+            11 => RepairKind::Said,
+            12 => RepairKind::Value,
+            13 => RepairKind::Result,
+            14 => RepairKind::Glyphs,
+            15 => RepairKind::Number,
+            16 => RepairKind::Dots,
+            17 => RepairKind::Space,
+            18 => RepairKind::Control,
+            19 => RepairKind::Stray,
+            20 => RepairKind::Offer,
+            21 => RepairKind::Angles,
+            22 => RepairKind::Bracket,
+            23 => RepairKind::Marker,
+            24 => RepairKind::Symbol,
+            25 => RepairKind::Nested,
+            26 => RepairKind::Comment,
+            27 => RepairKind::Unclosed,
+            28 => RepairKind::Prose,
+            29 => RepairKind::Fen,
+            30 => RepairKind::Squares,
+            31 => RepairKind::Null,
+            32 => RepairKind::Illegal,
+            33 => RepairKind::Unreadable,
+            34 => RepairKind::Variation,
+            _ => return None,
+        })
     }
 }

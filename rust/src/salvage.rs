@@ -1,123 +1,10 @@
 //! Games that strict reading refuses, saved where they can be.
+pub use crate::codes::RepairKind;
 use crate::error::{Error, GameFault};
 use crate::sys;
 use crate::text::long;
 use alloc::vec::Vec;
 use core::fmt;
-
-/// What was repaired.
-#[derive(Clone, Copy, Debug, PartialEq, Eq, Hash)]
-#[non_exhaustive]
-pub enum RepairKind {
-    /// A tag whose value has no quotation marks or bare ones.
-    TagQuotes,
-    /// A tag without its right bracket.
-    TagBracket,
-    /// A tag whose name has other bytes than letters, digits and the underscore.
-    TagName,
-    /// Castling in small letters, in other zeros, or without hyphens.
-    Castling,
-    /// A move with a hyphen between its squares.
-    Hyphen,
-    /// A capture with a colon.
-    Colon,
-    /// A pawn's move with a P.
-    Pawn,
-    /// A man's letter that is small.
-    Small,
-    /// A file's letter that is large.
-    Large,
-    /// A promotion with another sign, or in parentheses.
-    Promotion,
-    /// A figurine, a dash or a sign of captures within a word.
-    Sign,
-    /// A word that the move says itself, as `e.p.` or `mate`.
-    Said,
-    /// A word of evaluation, for which there is an annotation number.
-    Value,
-    /// A result in another form.
-    Result,
-    /// More than two signs of annotation together, or two that aren't of the standard.
-    Glyphs,
-    /// An annotation number that isn't one from 0 to 255.
-    Number,
-    /// An ellipsis of one character.
-    Dots,
-    /// A space that isn't one of ASCII.
-    Space,
-    /// A control byte.
-    Control,
-    /// Punctuation that belongs to nothing.
-    Stray,
-    /// An offer of a draw or another letter in parentheses.
-    Offer,
-    /// A text in angle brackets.
-    Angles,
-    /// A text in square brackets within the moves.
-    Bracket,
-    /// A result within a variation.
-    Marker,
-    /// A sign that no other row has.
-    Symbol,
-    /// A comment within a comment: what comes after the inner one.
-    Nested,
-    /// A comment without its right brace.
-    Comment,
-    /// A variation without its right parenthesis.
-    Unclosed,
-    /// Text that belongs to no game.
-    Prose,
-    /// A FEN tag without its last fields, with castling rights by files, or without a position.
-    Fen,
-    /// Castling by the squares of king and rook.
-    Squares,
-    /// The rest of a line after a null move, which is cut off.
-    Null,
-    /// The rest of a line after a word that names no legal move, or more than one.
-    Illegal,
-    /// The rest of a line after what is no move.
-    Unreadable,
-    /// A variation that can't begin where it does.
-    Variation,
-}
-
-const KINDS: [RepairKind; 35] = [
-    RepairKind::TagQuotes,
-    RepairKind::TagBracket,
-    RepairKind::TagName,
-    RepairKind::Castling,
-    RepairKind::Hyphen,
-    RepairKind::Colon,
-    RepairKind::Pawn,
-    RepairKind::Small,
-    RepairKind::Large,
-    RepairKind::Promotion,
-    RepairKind::Sign,
-    RepairKind::Said,
-    RepairKind::Value,
-    RepairKind::Result,
-    RepairKind::Glyphs,
-    RepairKind::Number,
-    RepairKind::Dots,
-    RepairKind::Space,
-    RepairKind::Control,
-    RepairKind::Stray,
-    RepairKind::Offer,
-    RepairKind::Angles,
-    RepairKind::Bracket,
-    RepairKind::Marker,
-    RepairKind::Symbol,
-    RepairKind::Nested,
-    RepairKind::Comment,
-    RepairKind::Unclosed,
-    RepairKind::Prose,
-    RepairKind::Fen,
-    RepairKind::Squares,
-    RepairKind::Null,
-    RepairKind::Illegal,
-    RepairKind::Unreadable,
-    RepairKind::Variation,
-];
 
 impl fmt::Display for RepairKind {
     fn fmt(&self, f: &mut fmt::Formatter<'_>) -> fmt::Result {
@@ -198,7 +85,7 @@ pub fn salvage_game(text: &[u8]) -> Result<Salvaged, Error> {
 impl Repair {
     fn of(repair: &sys::Repair) -> Repair {
         Repair {
-            kind: KINDS[repair.kind as usize],
+            kind: RepairKind::of_number(repair.kind).expect("a kind that the library has"),
             place: repair.place,
             length: repair.length,
             written: repair.written,
