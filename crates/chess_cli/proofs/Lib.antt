@@ -14,4 +14,5 @@ pub mod WorkLemmas
 pub mod TimedSessionLemmas
 pub mod CollectionLemmas
 pub mod LentLemmas
+pub mod LentClockLemmas
 pub mod AgainLemmas

@@ -267,6 +267,24 @@ begun_out old now (inr h) =
     ∙ change_both (without_node k) (λ x. append x (Node h.move h.nags h.comment h.below Bare)) (λ x. x) path f (without_last (below_at path f) h.move h.nags h.comment h.below)
     ∙ change_none path f)
 
+-- ---- the cursor where it was
+
+has_led : (path : List ℕ) (f : Forest) → Leads path f → has path f ≡ true
+has_led [] f l = refl
+has_led (k ∷ path) f l = both_true k (count f) path (below_child k f) l.0 (has_led path (below_child k f) l.1)
+
+pub still_there : (place : List ℕ) (old now : TreeParts) → place ≡ old.path → now.tree ≡ old.tree → Leads old.path old.tree.below → has place now.tree.below ≡ true
+still_there place old now e same l = ap (λ (x : List ℕ). has x now.tree.below) e ∙ ap (λ (t : GameTree). has old.path t.below) same ∙ has_led old.path old.tree.below l
+
+pub all_back : (place : List ℕ) (old now new : TreeParts) → place ≡ old.path → now.tree ≡ old.tree → new ≡ at_path place now → new ≡ old
+all_back place old now new e same is = is ∙ ap (λ (x : List ℕ). at_path x now) e ∙ ap (at_path old.path) (ap (λ (t : GameTree). record { tree = t; path = now.path }) same)
+
+-- a step to a path that is there
+pub no_fault : (place : List ℕ) (t : TreeParts) (r : Result (Unit {0}) TreeFault) → has place t.tree.below ≡ true
+    → MatchResult r (λ _. has place t.tree.below ≡ true) (λ fault. (fault ≡ NoSuch) × (has place t.tree.below ≡ false)) → (fault : TreeFault) → r ≡ Err fault → ⊥
+no_fault place t (Ok u) there at fault e = absurd cc
+no_fault place t (Err x) there at fault e = true≢false (sym there ∙ at.1)
+
 -- ---- along the moves that are there
 
 pub along_on : (m : MoveParts) (nags comment : List ℕ) (below next : Forest) (path : List ℕ) (k : ℕ) (f : Forest) → find m (below_at path f) ≡ Some k

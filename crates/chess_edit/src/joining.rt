@@ -180,23 +180,38 @@ fn go_along<'t, 'a, A: Allocator>(
     }
 }
 
-// Joins two trees that begin in one position.
+// Steps to the node at that path, which is there.
+fn step_back_to<'a, A: Allocator>(tree: &mut Tree<'a, A>, path: &[u32])
+    requires there { has path.now tree.old.tree.below ≡ true }
+    ensures { tree.new ≡ at_path path.now tree.old }
+{
+    let Ok(()) = tree.goto(path) else {
+        unreachable!();
+    };
+}
+
+// Joins two trees that begin in one position. Where that can't be, all is as before.
 fn join_trees<'a, A: Allocator>(
     tree: &mut Tree<'a, A>,
     other: &Tree<'a, A>,
 ) -> Result<(), TreeFault>
     requires start { tree.old.tree.start ≡ other.now.tree.start }
     ensures ok { OnOk result (tree.new.tree ≡ changed (line_joined other.now.tree.below) tree.old.tree) }
-    ensures err { OnErr result (tree.new.tree ≡ tree.old.tree) }
+    ensures err { OnErr result (tree.new ≡ tree.old) }
     ensures full { result ≡ Err tree_fault.Full → most_moves < moves_held (line_joined other.now.tree.below tree.old.tree.below) }
-    ensures cursor { tree.new.path ≡ [] }
+    ensures cursor { OnOk result (tree.new.path ≡ []) }
 {
+    let _here = tree.position();
     let _start = other.position();
+    let path = tree.path()?;
     tree.start();
     let node = go_along(tree, other.root());
-    let added = add_line(tree, node);
+    if let Err(fault) = add_line(tree, node) {
+        step_back_to(tree, path.as_slice());
+        return Err(fault);
+    }
     tree.start();
-    added
+    Ok(())
 }
 
 // Whether two trees begin in the same position.
@@ -226,10 +241,10 @@ fn join_fault(fault: TreeFault) -> JoinFault
 /// # Errors
 ///
 /// `Start` where the games begin in different positions, else `Full` only where the game would have more than 1,000,000 moves, or `Memory`
-/// where there is none. The game is then as before, but for the cursor.
+/// where there is none. All is then as before, the cursor, too.
 pub fn join<'a, A: Allocator>(game: &mut Game<'a, A>, other: &Game<'a, A>) -> Result<(), JoinFault>
     ensures ok { OnOk result (game.new.tree.tree ≡ changed (line_joined other.now.tree.tree.below) game.old.tree.tree) }
-    ensures err { OnErr result (game.new.tree.tree ≡ game.old.tree.tree) }
+    ensures err { OnErr result (game.new ≡ game.old) }
     ensures start { game.old.tree.tree.start ≢ other.now.tree.tree.start → result ≡ Err Start }
     ensures same { game.old.tree.tree.start ≡ other.now.tree.tree.start → IfErr result (λ fault. fault ≢ Start) }
     ensures full { result ≡ Err Full → most_moves < moves_held (line_joined other.now.tree.tree.below game.old.tree.tree.below) }

@@ -84,9 +84,10 @@ fn count_of(text: &[u8], part: &[u8]) -> usize {
 /// Whether a session on that heap wants memory; none where it doesn't begin. Each `go` has its best move, and the run ends well.
 fn is_starved(rt: &impl Abort, heap: &LocalHeap) -> Option<bool> {
     let mut room = [0; 1000];
+    let mut clock = STOPPED;
     let mut writer = ToBytes::new(&mut room, 1000);
     let mut reader = FromBytes::new(SESSION, 1000);
-    let ended = uci(heap, &mut reader, &mut writer, STOPPED);
+    let ended = uci(heap, &mut reader, &mut writer, &mut clock);
     if ended == Ended::Memory {
         assert_eq!(rt; writer.taken().len(), 0);
         return None;

@@ -41,7 +41,11 @@ fn assert_replies<A: Allocator>(
         let mut reader = FromBytes::new(input, piece);
         let mut room = [0; 2000];
         let mut writer = ToBytes::new(&mut room, piece);
-        assert_eq!(rt; uci(alloc, &mut reader, &mut writer, clock), Ended::Good);
+        let mut ticking = clock;
+        assert_eq!(rt;
+            uci(alloc, &mut reader, &mut writer, &mut ticking),
+            Ended::Good
+        );
         assert_eq!(rt; writer.taken(), output, "in pieces of {piece}");
     }
 }
@@ -102,8 +106,9 @@ fn stops_at_a_failing_read(rt: HostRuntime) -> Result<(), Fail> {
     for calls in 0..40u64 {
         let mut reader = FromBytes::failing_after(INPUT, 1, calls);
         let mut room = [0; 100];
+        let mut clock = STOPPED;
         let mut writer = ToBytes::new(&mut room, 100);
-        let ended = uci(rt.alloc(), &mut reader, &mut writer, STOPPED);
+        let ended = uci(rt.alloc(), &mut reader, &mut writer, &mut clock);
         let taken = if calls < 24 { 0 } else { OUTPUT.len() };
         assert_eq!(rt; writer.taken(), &OUTPUT[..taken], "after {calls} reads");
         let want = if calls < 29 {
@@ -115,9 +120,10 @@ fn stops_at_a_failing_read(rt: HostRuntime) -> Result<(), Fail> {
     }
     let mut reader = FromBytes::failing_after(INPUT, 65_536, 1);
     let mut room = [0; 100];
+    let mut clock = STOPPED;
     let mut writer = ToBytes::new(&mut room, 100);
     assert_eq!(rt;
-        uci(rt.alloc(), &mut reader, &mut writer, STOPPED),
+        uci(rt.alloc(), &mut reader, &mut writer, &mut clock),
         Ended::Good
     );
     assert_eq!(rt; writer.taken(), OUTPUT);
@@ -131,9 +137,10 @@ fn stops_at_a_failing_write(rt: HostRuntime) -> Result<(), Fail> {
         for calls in 0..OUTPUT.len() {
             let mut reader = FromBytes::new(INPUT, 100);
             let mut room = [0; 100];
+            let mut clock = STOPPED;
             let mut writer = ToBytes::refusing_after(&mut room, 1, calls as u64, refusal);
             assert_eq!(rt;
-                uci(rt.alloc(), &mut reader, &mut writer, STOPPED),
+                uci(rt.alloc(), &mut reader, &mut writer, &mut clock),
                 Ended::WriteFault
             );
             assert_eq!(rt; writer.taken(), &OUTPUT[..calls], "after {calls} writes");
@@ -142,35 +149,18 @@ fn stops_at_a_failing_write(rt: HostRuntime) -> Result<(), Fail> {
     Ok(())
 }
 
-/// A clock that stands still, and counts how often it is read.
-#[derive(Drop)]
-struct Counting<'c> {
-    readings: &'c mut u64,
-}
-
-impl Clock for Counting<'_> {
-    ghost use Rattle.std.specs.Prelude.{◌≡◌};
-
-    ghost reads = { λ c moment d. moment ≡ 0 };
-
-    fn now_ms(&mut self) -> u64 {
-        *self.readings = self.readings.saturating_add(1);
-        0
-    }
-}
-
 /// How often the clock is read before the first write, which fails.
 fn readings_before_a_write<A: Allocator>(rt: &impl Abort, alloc: A, input: &[u8]) -> u64 {
-    let mut readings = 0;
+    let mut clock = Ticking {
+        reading: 0,
+        step: 1,
+    };
     let mut reader = FromBytes::new(input, 100);
     let mut room = [0; 100];
     let mut writer = ToBytes::refusing_after(&mut room, 100, 0, WriteFailure::Fails);
-    let clock = Counting {
-        readings: &mut readings,
-    };
-    let ended = uci(alloc, &mut reader, &mut writer, clock);
+    let ended = uci(alloc, &mut reader, &mut writer, &mut clock);
     assert!(rt; ended == Ended::WriteFault);
-    readings
+    clock.reading
 }
 
 /// What was replied is written before the next slice: `readyok` before the first, and the report of depth 1 before the 21st.

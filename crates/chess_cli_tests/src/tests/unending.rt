@@ -135,14 +135,10 @@ fn stops_after_the_most_reads(rt: HostRuntime) {
 fn a_session_of_a_million_lines(rt: HostRuntime) -> Result<(), Fail> {
     let heap = LocalHeap::new(rt.alloc(), LITTLE)?;
     let mut reader = Repeated::new(b"isready\n", 8_000_000);
+    let mut clock = crate::tests::sessions::STOPPED;
     let mut writer = Counted::new();
     assert_eq!(rt;
-        uci(
-            &heap,
-            &mut reader,
-            &mut writer,
-            crate::tests::sessions::STOPPED
-        ),
+        uci(&heap, &mut reader, &mut writer, &mut clock),
         Ended::Good
     );
     assert_eq!(rt; writer.bytes, 8_000_000);
