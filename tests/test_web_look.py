@@ -112,16 +112,19 @@ BROKEN = """
     // 2.4.2, 3.1.1: the page says what it is, and in which language
     if (!document.title.trim()) breaks('the page has a title', 'title');
     if (!document.documentElement.lang) breaks('the page has a language', 'html');
+    const roleOf = (it) => it.getAttribute('role');
     // 1.3.1, 4.1.2: roles, states and what they refer to
     const ids = all.map((it) => it.id).filter(Boolean);
     for (const id of ids.filter((id, i) => ids.indexOf(id) !== i)) breaks('an id occurs once', id);
     for (const it of all) {
       for (const name of ['aria-labelledby', 'aria-describedby', 'aria-controls', 'aria-owns', 'for']) for (const id of (it.getAttribute(name) ?? '').split(' ').filter(Boolean)) if (!document.getElementById(id)) breaks('what is referred to is there', it);
+      if (it.hasAttribute('aria-sort') && (roleOf(it) !== 'columnheader' || !['none', 'ascending', 'descending'].includes(it.getAttribute('aria-sort')))) breaks('a column says how it is sorted', it);
       for (const name of ['aria-pressed', 'aria-selected', 'aria-disabled', 'aria-expanded', 'aria-hidden']) if (it.hasAttribute(name) && !['true', 'false'].includes(it.getAttribute(name))) breaks('a state is true or false', it);
       const role = it.getAttribute('role');
-      if (role && !['grid', 'row', 'gridcell', 'group', 'alert', 'status', 'img', 'presentation', 'dialog', 'tree', 'treeitem', 'list', 'listitem', 'meter', 'toolbar', 'none'].includes(role)) breaks('a role is one of ARIA', it);
-      if (role === 'row' && !it.parentElement.matches('[role=grid]')) breaks('a row is in a grid', it);
-      if (role === 'gridcell' && !it.parentElement.matches('[role=row]')) breaks('a cell is in a row', it);
+      if (role && !['grid', 'row', 'gridcell', 'group', 'alert', 'status', 'img', 'presentation', 'dialog', 'tree', 'treeitem', 'list', 'listitem', 'meter', 'toolbar', 'none', 'table', 'rowgroup', 'columnheader', 'cell'].includes(role)) breaks('a role is one of ARIA', it);
+      if (role === 'row' && !it.parentElement.matches('[role=grid], [role=table] [role=rowgroup]')) breaks('a row is in a grid', it);
+      if (role === 'rowgroup' && !it.closest('[role=table]')) breaks('rows are in a table', it);
+      if (['gridcell', 'cell', 'columnheader'].includes(role) && !it.parentElement.matches('[role=row]')) breaks('a cell is in a row', it);
       if (it.matches('li') && !it.parentElement.matches('ul, ol, menu')) breaks('an item is in a list', it);
     }
     // 2.1.1, 2.4.3: the order of the keys is that of the page
@@ -140,7 +143,7 @@ BROKEN = """
 WRONG = {
     "a control has a name": "<button></button>", "a part has a name": "<section>a</section>", "a picture has a text": '<img src="icon.svg">', "an id occurs once": '<p id="board"></p>',
     "what is referred to is there": '<p aria-describedby="nothing">a</p>', "a state is true or false": '<button aria-pressed="yes">a</button>', "a role is one of ARIA": '<p role="chess">a</p>',
-    "a row is in a grid": '<p role="row">a</p>', "a cell is in a row": '<p role="gridcell">a</p>', "an item is in a list": "<div><li>a</li></div>",
+    "a row is in a grid": '<p role="row">a</p>', "a cell is in a row": '<p role="gridcell">a</p>', "rows are in a table": '<p role="rowgroup">a</p>', "a column says how it is sorted": '<p aria-sort="up">a</p>', "an item is in a list": "<div><li>a</li></div>",
     "no place in the order of its own": '<button tabindex="3">a</button>', "what is hidden has no focus": '<p aria-hidden="true"><button>a</button></p>',
     "no control in a control": '<a href="#"><span tabindex="0">a</span></a>', "a target has 24 pixels": '<button class="small">a</button>',
 }

@@ -4,31 +4,33 @@ import { areMostPositions, position } from './epd.js';
 import { doing, exported, game, inTurn, isSettled, page, taken } from './game.js';
 import { another, idHere, isAsLoaded } from './mine.js';
 import { fromBytes, shown, toBytes } from './jatshegi/src/bytes.js';
+import { List } from './list.js';
 import { hasStore, newFileId, readFile, writeFile } from './store.js';
 import { faultWords, refusal, repaired } from './words.js';
 
 const by = (id) => document.getElementById(id);
-const MOST_SHOWN = 500;
 // This number of bytes decides what a game is repaired to.
 const MOST_REPAIRED = 1_179_648;
 
 // The games, or positions, that were read last: the bytes, what was found in them, and the file, where they are of one: `{id, name, handle}`.
 // `opened` has the numbers of those that were opened, by the games that they are then.
-const collected = (more = {}) => ({ bytes: null, file: null, found: [], bad: 0, wrong: 0, first: null, isLoaded: null, arePositions: false, opened: new Map(), ...more });
+const collected = (more = {}) => ({ bytes: null, file: null, found: [], bad: 0, wrong: 0, first: null, isLoaded: null, isRead: false, arePositions: false, opened: new Map(), ...more });
 let collection = collected();
 
 // ---- The list.
 
 const isKnown = (value) => /[^?.*\s]/.test(value);
 
-// A game by its players, or where it names none by its opening.
-const label = (it) => {
-  if (it.fault !== undefined) return `${it.number}. Can\u2019t be read: ${faultWords(it.fault, it.where)}`;
-  const tag = (name) => it.tags.find(([is]) => is === name)?.[1] ?? '';
-  const known = (...names) => names.map(tag).filter(isKnown).join(' ');
-  const players = known('White', 'Black') ? `${tag('White') || '?'} \u2013 ${tag('Black') || '?'}` : known('ECO', 'Opening', 'Variation');
-  return `${it.number}. ${[players || '? \u2013 ?', known('Result', 'Event', 'Date')].filter(Boolean).join(' ')}${it.finding ? ` \u2014 ${it.finding}` : ''}`;
+const tagOf = (it, name) => it.tags?.find(([is]) => is === name)?.[1] ?? '';
+const known = (it, ...names) => names.map((name) => tagOf(it, name)).filter(isKnown).join(' ');
+
+// A game by its players, or where it names none by its opening, and what else is shown of it: its result, its event, its date and what is wrong with it.
+const playersOf = (it) => (known(it, 'White', 'Black') ? `${tagOf(it, 'White') || '?'} \u2013 ${tagOf(it, 'Black') || '?'}` : known(it, 'ECO', 'Opening', 'Variation') || '? \u2013 ?');
+const cellsOf = (it) => {
+  if (it.fault !== undefined) return [`${it.number}. Can\u2019t be read: ${faultWords(it.fault, it.where)}`];
+  return [`${it.number}. ${playersOf(it)}`, ...['Result', 'Event', 'Date'].map((name) => known(it, name)), it.finding ? `\u2014 ${it.finding}` : ''];
 };
+const label = (it) => cellsOf(it).filter(Boolean).join(' ');
 
 // A position by its line, what it is called, and what else is said of it.
 const positionLabel = ({ number, fen, said, refused, text }) => {
@@ -81,48 +83,67 @@ const noteOpened = (of, { number }) => {
 };
 
 // The entry of the list that is on the board.
-let marked = null;
 export const markOpened = () => {
   const { file, opened } = collection;
-  const number = file && game.origin ? game.origin.file === file.id && game.origin.number : opened.get(idHere());
-  const now = number ? by('games').querySelector(`[data-number="${number}"] button`) : null;
-  if (now === marked) return;
-  marked?.removeAttribute('aria-current');
-  now?.setAttribute('aria-current', 'true');
-  marked = now;
+  list.mark(file && game.origin ? game.origin.file === file.id && game.origin.number : opened.get(idHere()));
 };
 
-const entry = (it) => {
-  const row = document.createElement('li');
-  row.dataset.number = it.number;
+const CELLS = ['result', 'event', 'date', 'wrong'];
+
+// A row of the list: what opens it, and for a game its other cells.
+const fills = (row, it) => {
+  const [cell] = row.children;
+  const [button] = cell.children;
   if (it.isBad) row.className = 'bad';
+  else if (it.finding) row.className = 'finding';
   if (it.refused) {
     row.classList.add('refused');
-    row.textContent = it.label;
-    return row;
+    cell.textContent = it.label;
+    return;
   }
-  const button = document.createElement('button');
-  button.textContent = it.label;
   if (it.fen) button.title = it.fen;
   if (it.isBad) button.title = 'Show it repaired';
-  button.onclick = () => (it.fen ? openPosition(it) : it.isBad ? openRepaired(it) : openListed(it));
-  if (it.finding) row.className = 'finding';
-  row.append(button);
-  return row;
+  const [first, ...others] = it.tags ? cellsOf(it) : [it.label];
+  button.textContent = first;
+  others.forEach((text, i) => {
+    const other = document.createElement('span');
+    other.setAttribute('role', 'cell');
+    other.className = CELLS[i];
+    other.textContent = text && ` ${text}`;
+    row.append(other);
+  });
+};
+
+const list = new List({
+  texts: { number: () => '', players: (it) => known(it, 'White', 'Black') && `${tagOf(it, 'White')}\n${tagOf(it, 'Black')}`, ...Object.fromEntries(['Result', 'Event', 'Date'].map((name) => [name.toLowerCase(), (it) => known(it, name)])) },
+  fills,
+  opens: (it) => (it.fen ? openPosition(it) : it.isBad ? openRepaired(it) : openListed(it)),
+});
+
+// Where the list was left is kept with the window, so that it comes back there after a reload.
+addEventListener('pagehide', () => {
+  try {
+    sessionStorage.setItem('list', JSON.stringify({ file: collection.file?.id, ...list.where }));
+  } catch {
+    // (a window that may keep nothing)
+  }
+});
+const left = () => {
+  try {
+    return JSON.parse(sessionStorage.getItem('list'));
+  } catch {
+    return null;
+  }
 };
 
 // What is listed stays where it is while the list grows, so that it can be clicked.
-let listing = { of: null, words: '' };
 export const showCollection = () => {
   const words = by('find').value.toLowerCase();
-  if (listing.of !== collection || listing.words !== words) by('games').replaceChildren();
-  listing = { of: collection, words };
-  const { found, bad, wrong, arePositions } = collection;
+  const { found, bad, wrong, arePositions, isRead } = collection;
   const good = found.length - bad;
   const counted = arePositions ? [`${good} position${good === 1 ? '' : 's'}`, bad === 1 ? ', and a line that can\u2019t be read' : `, and ${bad} lines that can\u2019t be read`] : [`${good} games`, `, and ${bad} that can\u2019t be read`];
-  const matches = words ? found.filter((it) => has(it, words)) : found;
-  by('games').append(...matches.slice(by('games').children.length, MOST_SHOWN).map(entry));
-  by('howmany').textContent = `${counted[0]}${bad ? counted[1] : ''}${wrong ? `; ${wrong} with a finding` : ''}${matches.length > MOST_SHOWN ? `; the first ${MOST_SHOWN} are shown` : ''}`;
+  const beyond = list.show({ of: collection, words, found, has: (it) => !words || has(it, words), isRead, isTable: !arePositions });
+  by('howmany').textContent = `${counted[0]}${bad ? counted[1] : ''}${wrong ? `; ${wrong} with a finding` : ''}${beyond ? `; ${beyond} more aren\u2019t shown` : ''}`;
   markOpened();
 };
 
@@ -151,7 +172,10 @@ const readPositions = async (bytes) => {
     by('collection').hidden = false;
     showCollection();
   };
-  add((await ask('positions', { bytes }, add)).found);
+  list.comeTo();
+  const { found } = await ask('positions', { bytes }, add);
+  mine.isRead = true;
+  add(found);
   if (collection === mine && rows.length > 1) page.told('The positions are in the list: choose one. The board is as it was.');
 };
 
@@ -164,9 +188,10 @@ export const read = async (bytes, { before = game.acts, file = null } = {}) => {
     await readPositions(bytes);
     return;
   }
-  const old = collection;
+  const [old, place] = [collection, list.where];
   const mine = collected({ bytes, file });
   collection = mine;
+  list.comeTo(file ? [{ file: old.file?.id, ...place }, left()].find((it) => it?.file === file.id) : {});
   by('collection').hidden = true;
   // (`before` is null where none is to come on the board)
   const take = (it) => inTurn(async () => {
@@ -187,14 +212,19 @@ export const read = async (bytes, { before = game.acts, file = null } = {}) => {
     if (first) mine.first ??= take(first).then((is) => { mine.isLoaded = is; });
     show();
   };
-  add((await ask('games', { bytes, isPasted: !file }, add)).found);
+  const { found: last } = await ask('games', { bytes, isPasted: !file }, add);
+  mine.isRead = true;
+  add(last);
   await mine.first;
   if (collection !== mine) return;
   const [bad] = mine.first ? [] : mine.found;
   const saved = bad && before !== null ? await repairedOf(mine, bad) : null;
   if (collection !== mine) return;
   // (a text without a game leaves the list that was there)
-  if (!file && !mine.first && !saved && old.first) collection = old;
+  if (!file && !mine.first && !saved && old.first) {
+    collection = old;
+    list.comeTo(place);
+  }
   show();
   if (before === null) return;
   const isFree = () => game.acts === before;

@@ -1,6 +1,6 @@
 // Keeps the page's own files of one version in the browser, so that it opens without a net. A new version replaces them as a whole.
 // The list is written by tools/offline.
-const VERSION = 'a95dd7cb5a5e39ce';
+const VERSION = 'b70bd6230733cebe';
 const KEPT = {
   'about.html': 'sha256-r1CC3PSgnT3IeddTCQ+9Qc4Ht/lyiBkQBzsxB+mInYc=',
   'analysis.js': 'sha256-U5gKvR+K0hFJAKrjM/ifL9liAcnHH+FbMdFUOHSgFps=',
@@ -12,7 +12,7 @@ const KEPT = {
   'editor.js': 'sha256-qjrHG0jzeqhcZ0YIBgkOHWP8d9jxvbVwFAMSJ4/5uHU=',
   'engine.js': 'sha256-XINIk4AlkbrbMMaBOUYsVq9+D8NFb4QxGGTlA3Oevo0=',
   'epd.js': 'sha256-xQn3GCHNc2Yqdh0gMV5ngVdUaQNX/WBZXprjkCkK10g=',
-  'files.js': 'sha256-VPcNHNTDCsNtK75wM5W7Ykz3LnDTKHtav5BhwO/Bujo=',
+  'files.js': 'sha256-0rfGLqLHWOIMzzqeM7CkpZtu4Z4ZFNQkyNgeAA6wsIg=',
   'game.js': 'sha256-TXggH47/3PHVsitXzDMbBJIzEn9nuKLPHGLU57LRsRE=',
   'graph.js': 'sha256-Vj9cEO3jCYMfK3DvrXBt7vjOtuthXjX8WbfMJ3Ldw4o=',
   'history.js': 'sha256-RLVHLQ+yLGfFvQ3BPW1pGbtaJkvMxkPEIXhM7IR8hYE=',
@@ -20,7 +20,7 @@ const KEPT = {
   'icon-192.png': 'sha256-dDBraL7vMtodXDIdT9kkB4nmtLHKDDvq75i4QBmFy1Y=',
   'icon-512.png': 'sha256-kKyDl2nv4OOxpJUmrtDtH5oAQqigmf5TT2OnNGXpHsU=',
   'icon.svg': 'sha256-MIqbBfrY8jneIrbk+mcJq7TJSYDbHm5LwjQhbWTpmWU=',
-  'index.html': 'sha256-0kqff8BzXClBxWG+2+wPx1pyaCcd3O37yKOBp6DpyGg=',
+  'index.html': 'sha256-FM01wPNF5CKUMRF4xsy3GgyUSQ/MuPyoVKeAi8SBylY=',
   'jatshegi.wasm': 'sha256-sMpxIk4Jl+wIBP6vesiZ9J85AYkR9s2nWE8qNIKN15o=',
   'jatshegi/src/boards.js': 'sha256-FhM9HTDTz802BSdSGBxKyxcKhZqbAhriKB7fj7626qM=',
   'jatshegi/src/bytes.js': 'sha256-LBtpigRyCU+u7acHDGRl53R4GTPRblnbyZw1zI1KCLk=',
@@ -37,6 +37,7 @@ const KEPT = {
   'jatshegi/src/view.js': 'sha256-HZvvuC8hc5V4jywYva7qEY/bAqGf29CIiuyJJzP7nMU=',
   'kept.js': 'sha256-IzmQCddu7qdeF/idl0rLm7bUYOG5NXH9IIaiKlrh5GA=',
   'link.js': 'sha256-yOY4ch4C9jWHyzEGT1ozdyWf8krTURqNMwrGeWkneLk=',
+  'list.js': 'sha256-632CkzvfcFMS4l21FQ2T3FIEasdyo7vJcQkwLhgRnXI=',
   'main.js': 'sha256-f+MZgu6R64VWSzM31SQEGM9cwy6huNxOU0hDelKoIq4=',
   'manifest.json': 'sha256-QAKyIQ4IOcScflN1yhydOIxNqrwWpRonHOlGu17rDhg=',
   'mine.js': 'sha256-bb4j/2IL1kqEZ6OqedtX70U1eahLRlkESSeVjzl/OUk=',
@@ -44,7 +45,7 @@ const KEPT = {
   'pgn.js': 'sha256-TxoePkcQmrumVSgjY6UWWb28LNwgXcrlPUfO+Oe+efo=',
   'settings.js': 'sha256-lfnY3Lee1w8sdBUo5DpbL5zUnuORJHD/B69WyxuGQrs=',
   'store.js': 'sha256-C10zWHMq50ar1TXN97UWrl7czSU+khYnbTpapLDHo2A=',
-  'style.css': 'sha256-vxT4xDmpbeNO9uBVBWrhtPvGyuN2cGWVPX5znDpTQms=',
+  'style.css': 'sha256-UELh30gYPMWAObfI6bD0DtItkChPlkX3istd+7ojtrU=',
   'words.js': 'sha256-8CV7OdI32uu361pvtd5CmcgO1RGe10bgSn69tkxy89w=',
   'worker.js': 'sha256-uuhKZZINdxvSaK6VAUZtktwmPl06Naw1G1cTRZnzppM=',
 };
@@ -75,7 +76,8 @@ const replace = async () => {
   await clients.claim();
 };
 
-const answer = async (name, request) => (await (await caches.open(NAME)).match(at(name))) ?? fetch(request);
+// (a version that was replaced meanwhile has no files: then those of the new one go out, and the page sees that it is another)
+const answer = async (name, request) => (await caches.match(at(name), { cacheName: NAME })) ?? (await caches.match(at(name))) ?? fetch(request);
 
 addEventListener('install', (event) => event.waitUntil(keep()));
 addEventListener('activate', (event) => event.waitUntil(replace()));
