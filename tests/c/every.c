@@ -684,6 +684,7 @@ static void stops(struct jatshegi_board *b) {
         CHECK(jatshegi_board_evaluation(b, &value) == JATSHEGI_OK && value == -worth);
         for (size_t i = 0; i <= count; i++) CHECK(jatshegi_board_undo(b, true) == JATSHEGI_OK);
     }
+    CHECK(jatshegi_stop_set(&other, true) == JATSHEGI_OK);
 
     /* Slices of a search. */
     CHECK(jatshegi_search_slice_within(b, UINT64_MAX, &none, &left, &visited) == JATSHEGI_NONE && left == 7);
