@@ -192,7 +192,7 @@ class TheEngine(unittest.TestCase):
         return True
 
     def test_the_line_is_that_of_its_score(self):
-        """In positions of random games; up to depth 5 no line is cut, and most aren't at depth 6."""
+        """In positions of random games; up to depth 6 no line is cut."""
         chance = random.Random(7)
         positions = [f"fen {KIWIPETE}", f"fen {SHARP}", "fen 7k/8/8/8/8/8/R7/1R4K1 w - - 0 1", "fen 6k1/5ppp/8/8/8/8/8/R5K1 w - - 0 1"]
         for _ in range(16):
@@ -210,8 +210,7 @@ class TheEngine(unittest.TestCase):
             engine.end()
             for report in [it for it in engine.lines if " pv " in it]:
                 whole.setdefault(int(report.split()[2]), []).append(self.check_score(position, report))
-        self.assertTrue(all(all(whole[depth]) for depth in range(1, 6)), whole)
-        self.assertGreater(sum(whole[6]), len(positions) // 2)
+        self.assertEqual((sorted(whole), [depth for depth, lines in whole.items() if not all(lines)]), ([1, 2, 3, 4, 5, 6], []))
 
     def test_random_moments(self):
         """The replies are those of the session to the recorded events; each search has one `bestmove`, of the session."""
