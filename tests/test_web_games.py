@@ -224,6 +224,73 @@ class Games(Browsing):
         page.until(lambda: len(page.moves.split()) > 2, "the engine has moved")
         self.assertEqual(self.bar(), [False, ""])
 
+    def curves(self):
+        """How many evaluations the graph shows of the comments and of the engine, and its words."""
+        return self.page.script("""
+            const many = (name) => (document.querySelector(`#graph .${name}`)?.getAttribute('d').match(/[ML]/g).length ?? 0);
+            const white = many('white');
+            return document.getElementById('graph').hidden ? [0, 0, ''] : [white ? white - 2 : 0, many('engine'), document.getElementById('graph').getAttribute('aria-label')];
+        """)
+
+    def evaluations(self):
+        return self.browser.execute_async_script("""
+            const done = arguments[0];
+            window.jatshegi.evaluations().then((all) => done(all.map((it) => it && [it.depth, it.text])), (error) => done(String(error)));
+        """)
+
+    def of_the_program(self, moves, depth):
+        """What the program says of a position at a depth, as the page shows it for White."""
+        given = f"position startpos moves {' '.join(moves)}\ngo depth {depth}\n".encode()
+        said = test_web.chess("uci", given=given).stdout.decode()
+        kind, number = re.findall(rf"^info depth {depth} .*?score (cp|mate) (-?\d+)", said, re.M)[-1]
+        value = int(number) * (1 if len(moves) % 2 == 0 else -1)
+        sign = "\u2212" if value < 0 else ""
+        return f"{sign}#{abs(value)}" if kind == "mate" else f"{sign or ('+' if value > 0 else '')}{abs(value) / 100:.1f}"
+
+    def test_the_engine_s_evaluations_are_beside_those_of_the_comments(self):
+        page, moves = self.page, ["e2e4", "e7e5", "f1c4", "b8c6", "d1h5", "g8f6", "h5f7"]
+        page.choose("depth", "2")
+        self.given("1. e4 {[%eval 0.2]} e5 {[%eval 0.1]} 2. Bc4 Nc6 3. Qh5 {[%eval 0.3]} Nf6 4. Qxf7# *")
+        self.assertEqual(self.curves()[:2], [3, 0])
+        # of the positions that are visited
+        page.script("document.getElementById('analyse').click()")
+        for number in range(3):
+            page.script("document.getElementById('forward').click()")
+            page.until(lambda: (self.evaluations() + [None] * 9)[number] is not None and self.evaluations()[number][0] == 2, f"position {number} is evaluated")
+        page.until(lambda: self.curves()[:2] == [3, 3], lambda: f"both are drawn: {self.curves()}")
+        page.script("document.getElementById('analyse').click()")
+        # of the whole game, of which the last position needs none
+        page.script("document.getElementById('analyseall').click()")
+        page.until(lambda: page.text("analysed") == "All 7 positions are analysed to depth 2", lambda: page.text("analysed"))
+        found = self.evaluations()
+        self.assertEqual(found, [[2, self.of_the_program(moves[:i + 1], 2)] for i in range(6)] + [None])
+        page.until(lambda: self.curves()[:2] == [3, 6], "the whole line is drawn")
+        self.assertEqual(self.curves()[2], f"Evaluations of the main line, in the comments from +0.2 to +0.3, and by the engine from {found[0][1]} to {found[5][1]}")
+        self.assertEqual(page.script("return document.getElementById('analyseall').getAttribute('aria-pressed')"), "false")
+        # another move keeps those of the moves before
+        page.script("document.getElementById('end').click()")
+        page.script("document.getElementById('delete').click()")
+        page.until(lambda: "Qxf7" not in page.moves, "the last move is taken out")
+        self.assertEqual(self.evaluations(), found[:6])
+        page.until(lambda: self.curves()[:2] == [3, 6], "the line is as before")
+
+    def test_the_run_over_the_game_ends_when_it_is_told(self):
+        page = self.page
+        page.choose("depth", "16")
+        page.play("e4", "e5")
+        page.script("document.getElementById('analyseall').click()")
+        page.until(lambda: page.script("return document.getElementById('analyseall').getAttribute('aria-pressed')") == "true", "it runs")
+        page.until(lambda: page.text("analysed").startswith("Analysed 0 of 3"), lambda: page.text("analysed"))
+        # (the board answers meanwhile)
+        page.play("Nf3")
+        page.script("document.getElementById('analyseall').click()")
+        self.assertEqual((page.text("analysed"), page.script("return document.getElementById('analyseall').getAttribute('aria-pressed')")), ("Ended: 0 of 3 positions are analysed", "false"))
+        # a game without a comment has the engine's graph alone
+        page.choose("depth", "1")
+        page.script("document.getElementById('analyseall').click()")
+        page.until(lambda: page.text("analysed").startswith("All 4 positions"), lambda: page.text("analysed"))
+        page.until(lambda: self.curves()[:2] == [0, 3], lambda: f"it is drawn: {self.curves()}")
+
     def wheel(self, far, **more):
         return self.page.script("""
             const it = new WheelEvent('wheel', { deltaY: arguments[0], bubbles: true, cancelable: true, ...arguments[1] });

@@ -1,5 +1,6 @@
 // What the page shows of the game: the status with its articles, the moves, the comment, and the names.
 import { clock, evaluation, shapes, split } from './commands.js';
+import { evaluations, watch } from './evals.js';
 import { game, lines, page, retag, tag } from './game.js';
 import { Graph } from './graph.js';
 import { shown } from './jatshegi/src/bytes.js';
@@ -142,6 +143,8 @@ const piecesOf = (all) => {
   return found;
 };
 
+let pieces = [];
+
 const drawPiece = ({ shows }) => {
   const top = element('div', '', 'piece');
   const open = [top];
@@ -163,8 +166,6 @@ const drawPiece = ({ shows }) => {
   }
   return top;
 };
-
-let pieces = [];
 
 const drawTree = (all) => {
   const box = by('moves');
@@ -207,6 +208,18 @@ let marks = [];
 export const marksHere = () => marks;
 
 const graph = new Graph(by('graph'), (row) => lines(`goto ${pathOf(row).join('.')}`));
+
+// What the engine said is drawn a little later: it says much in a moment, and who steps on waits for nothing.
+const LATER = 150;
+let telling = 0;
+watch.changed = () => {
+  clearTimeout(telling);
+  telling = setTimeout(async () => {
+    const all = drawn;
+    const said = await evaluations().catch(() => []);
+    if (all === drawn) graph.tell(said);
+  }, LATER);
+};
 
 let drawn = null;
 let marked = null;
@@ -261,6 +274,7 @@ export const drawMoves = () => {
   if (drawn !== all) {
     drawTree(all);
     graph.show(all[0], (it) => partsOf(it).commands);
+    watch.changed();
   }
   drawn = all;
   graph.go(row);
