@@ -291,6 +291,35 @@ class Games(Browsing):
         page.until(lambda: page.text("analysed").startswith("All 4 positions"), lambda: page.text("analysed"))
         page.until(lambda: self.curves()[:2] == [0, 3], lambda: f"it is drawn: {self.curves()}")
 
+    def diagrams(self):
+        return self.page.script("return [...document.querySelectorAll('#moves .diagram')].map((it) => [it.dataset.fen ?? '', it.querySelectorAll('.man').length])")
+
+    def test_diagrams_are_asked_for_by_comments(self):
+        page = self.page
+        start, first, second = "rnbqkbnr/pppppppp/8/8/8/8/PPPPPPPP/RNBQKBNR w KQkq - 0 1", "rnbqkbnr/pppppppp/8/8/4P3/8/PPPP1PPP/RNBQKBNR b KQkq e3 0 1", "rnbqkbnr/pp1ppppp/8/2p5/4P3/8/PPPP1PPP/RNBQKBNR w KQkq c6 0 2"
+        self.given("{[#] begun} 1. e4 {[#] good} d5 (1... c5 {[%csl Ge4] [#]}) 2. exd5 *")
+        page.until(lambda: self.diagrams() == [[start, 32], [first, 32], [second, 32]], lambda: f"three are drawn: {self.diagrams()}")
+        self.assertNotIn("[#]", page.moves)
+        # a chosen move gets one, and loses it
+        self.at(["end"])
+        had = self.text()
+        page.script("document.getElementById('diagram').click()")
+        page.until(lambda: len(self.diagrams()) == 4 and self.diagrams()[3] == ["rnbqkbnr/ppp1pppp/8/3P4/8/8/PPPP1PPP/RNBQKBNR b KQkq - 0 2", 31], lambda: f"four are drawn: {self.diagrams()}")
+        self.assertIn("2. exd5 {[#]} *", " ".join(self.text().split()))
+        # it stays when the words change
+        page.type("comment", "taken")
+        self.assertIn("2. exd5 {[#] taken} *", " ".join(self.text().split()))
+        self.assertEqual((self.box(), len(self.diagrams())), ("taken", 4))
+        page.type("comment", " ")
+        page.script("document.getElementById('diagram').click()")
+        self.assertEqual(self.text(), had)
+        page.until(lambda: len(self.diagrams()) == 3, "three are left")
+        page.script("document.getElementById('undo').click()")
+        page.until(lambda: len(self.diagrams()) == 4, "undo brings it back")
+        # the same moves from another position have other diagrams
+        page.paste(f'[FEN "{start.replace("RNBQKBNR", "RNBQK2R")}"]\n\n' + "{[#] begun} 1. e4 {[#] good} d5 (1... c5 {[%csl Ge4] [#]}) 2. exd5 *")
+        page.until(lambda: [it[1] for it in self.diagrams()] == [30] * 3, lambda: f"they are drawn anew: {self.diagrams()}")
+
     def wheel(self, far, **more):
         return self.page.script("""
             const it = new WheelEvent('wheel', { deltaY: arguments[0], bubbles: true, cancelable: true, ...arguments[1] });
@@ -366,10 +395,12 @@ class InChromium(Games, unittest.TestCase):
     def test_a_print_has_the_names_a_diagram_and_all_moves(self):
         page = self.page
         knights = "Nf3 Nf6 Ng1 Ng8 " * 30
-        self.given(f'[White "A"]\n[Black "B"]\n[Result "1-0"]\n\n1. e4 {{good}} e5 (1... c5 {{[%eval 0.2]}}) {knights}1-0')
+        self.given(f'[White "A"]\n[Black "B"]\n[Result "1-0"]\n\n1. e4 {{good [#]}} e5 (1... c5 {{[%eval 0.2] [#]}}) {knights}1-0')
+        page.until(lambda: [it[1] for it in self.diagrams()] == [32] * 2, "the diagrams are drawn")
+        self.assertEqual(page.script("return [...document.querySelectorAll('.spot')].filter((it) => it.checkVisibility()).length"), 0)
         page.script("window.printed = 0; window.print = () => { window.printed++; }; document.documentElement.dataset.theme = 'dark'")
         page.click("print")
-        self.assertEqual(page.script("return window.printed"), 1)
+        page.until(lambda: page.script("return window.printed") == 1, "it is printed")
         page.squares("e2")
         self.browser.execute_cdp_cmd("Emulation.setEmulatedMedia", {"media": "print"})
         try:
@@ -381,6 +412,11 @@ class InChromium(Games, unittest.TestCase):
                 return {
                     shown: ['player1', 'player2', 'board', 'moves', 'status', 'top', 'bar', 'graph', 'san', 'comment', 'menubutton', 'find'].filter((id) => of(id).checkVisibility()),
                     isWhole: box.scrollHeight <= box.clientHeight + 1 && moves.every((it) => it.getBoundingClientRect().top >= top - 1 && it.getBoundingClientRect().bottom <= bottom + 8),
+                    diagrams: [...document.querySelectorAll('.diagram')].map((it) => {
+                      const { width, height } = it.getBoundingClientRect();
+                      const spots = [...it.children].map((spot) => spot.getBoundingClientRect());
+                      return [Math.abs(width - height) < 3, width > 200, spots.filter(({ width, height }) => width > 20 && Math.abs(width - height) < 1).length, it.querySelectorAll('.man').length];
+                    }),
                     many: moves.length, page: getComputedStyle(document.body).backgroundColor, ink: getComputedStyle(moves[0]).color,
                     square: [...document.querySelectorAll('#board .square')].every((it) => getComputedStyle(it).boxShadow === 'none'), wide: document.getElementById('board').offsetWidth,
                 };
@@ -388,7 +424,7 @@ class InChromium(Games, unittest.TestCase):
         finally:
             self.browser.execute_cdp_cmd("Emulation.setEmulatedMedia", {"media": ""})
         self.assertEqual(seen.pop("wide") // 10, 34)
-        self.assertEqual(seen, {"shown": ["player1", "player2", "board", "moves", "status"], "isWhole": True, "many": 123, "page": "rgb(255, 255, 255)", "ink": "rgb(0, 0, 0)", "square": True})
+        self.assertEqual(seen, {"shown": ["player1", "player2", "board", "moves", "status"], "isWhole": True, "diagrams": [[True, True, 64, 32]] * 2, "many": 123, "page": "rgb(255, 255, 255)", "ink": "rgb(0, 0, 0)", "square": True})
 
     def test_the_page_can_be_installed(self):
         with open(f"{test_web.WEB}/index.html", encoding="utf-8") as file:

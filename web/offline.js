@@ -1,27 +1,27 @@
 // Keeps the page's own files of one version in the browser, so that it opens without a net. A new version replaces them as a whole.
 // The list is written by tools/offline.
-const VERSION = '0b3f3bfc7e7bf0fb';
+const VERSION = '6df1003bf29e714d';
 const KEPT = {
   'about.html': 'sha256-r1CC3PSgnT3IeddTCQ+9Qc4Ht/lyiBkQBzsxB+mInYc=',
   'analysis.js': 'sha256-EBXrFs+aNX0zv+2Ew0PpWs3xd/QObjPbhPtKc7Rf1/U=',
   'ask.js': 'sha256-uqHZPTXBZ7DD0Fuz6d7kZrpLkyZxQbyMlDUkVxo5Klw=',
   'board.css': 'sha256-DCkDM8MoGkApTySQwKhuxli8aCajqcgLM+xChCINdc0=',
-  'commands.js': 'sha256-Zzo6HlZ/y9xVqUQoHhGsDfZcepUPrqwnOcz0KbghD9s=',
+  'commands.js': 'sha256-CccvFt820FaMsB+TBcUIebeQ+vSC9LpPfQ6mHWSdtYM=',
   'dialogs.js': 'sha256-A/DMyRk0ss1T4ccdYxVo4WQNcJ5zrYNywFvGcpZInRk=',
-  'draw.js': 'sha256-yF/0oa7w3Sdq86GgQdRxxHbsH224jZ2iZCbZoO7VQzI=',
+  'draw.js': 'sha256-oCmeEsTbqYq6ftX0VwTx/6ssfUAoUP2Ix7vWdNDfb88=',
   'editor.js': 'sha256-qjrHG0jzeqhcZ0YIBgkOHWP8d9jxvbVwFAMSJ4/5uHU=',
   'engine.js': 'sha256-XINIk4AlkbrbMMaBOUYsVq9+D8NFb4QxGGTlA3Oevo0=',
   'epd.js': 'sha256-xQn3GCHNc2Yqdh0gMV5ngVdUaQNX/WBZXprjkCkK10g=',
   'evals.js': 'sha256-wQR6YJCBOg13PCe8tq1sWgmjUbIyx3FTT7KFi7UB+J8=',
   'files.js': 'sha256-0rfGLqLHWOIMzzqeM7CkpZtu4Z4ZFNQkyNgeAA6wsIg=',
-  'game.js': 'sha256-TXggH47/3PHVsitXzDMbBJIzEn9nuKLPHGLU57LRsRE=',
+  'game.js': 'sha256-3hmUhmUW9r/OJwh2PJhVDMtV3yMmB7t7lRy7kYvulqw=',
   'graph.js': 'sha256-Gi5GR4H1tOmzV1kKFgjHWxPsqnVeCM31/9UKppRRCCo=',
   'history.js': 'sha256-RLVHLQ+yLGfFvQ3BPW1pGbtaJkvMxkPEIXhM7IR8hYE=',
   'icon-180.png': 'sha256-ZHAADm7xEcOvlYm1SUwNSluxpBuZoXY0pxAV0aAue2w=',
   'icon-192.png': 'sha256-dDBraL7vMtodXDIdT9kkB4nmtLHKDDvq75i4QBmFy1Y=',
   'icon-512.png': 'sha256-kKyDl2nv4OOxpJUmrtDtH5oAQqigmf5TT2OnNGXpHsU=',
   'icon.svg': 'sha256-MIqbBfrY8jneIrbk+mcJq7TJSYDbHm5LwjQhbWTpmWU=',
-  'index.html': 'sha256-nTnqLjjA57icJPqHwU0Mtp5raaoraEca5SCRK2I+GJY=',
+  'index.html': 'sha256-4rRQDbryTZ0zSsB8M2kXiUjzEVEH4lacUR4slcp07ZE=',
   'jatshegi.wasm': 'sha256-sMpxIk4Jl+wIBP6vesiZ9J85AYkR9s2nWE8qNIKN15o=',
   'jatshegi/src/boards.js': 'sha256-K4MmeyCEFE27yt5c5E+54f5M3YUlgeJfrvueBTPOFR4=',
   'jatshegi/src/bytes.js': 'sha256-LBtpigRyCU+u7acHDGRl53R4GTPRblnbyZw1zI1KCLk=',
@@ -38,16 +38,16 @@ const KEPT = {
   'kept.js': 'sha256-IzmQCddu7qdeF/idl0rLm7bUYOG5NXH9IIaiKlrh5GA=',
   'link.js': 'sha256-yOY4ch4C9jWHyzEGT1ozdyWf8krTURqNMwrGeWkneLk=',
   'list.js': 'sha256-632CkzvfcFMS4l21FQ2T3FIEasdyo7vJcQkwLhgRnXI=',
-  'main.js': 'sha256-JpHwoPGr+R6ttS/wkH5/8wacC9vIJC5/iva7VJ9xclE=',
+  'main.js': 'sha256-i1ig7LYHY6qNP0Av8jP0mn632sYx93PV+4LtosuxCp0=',
   'manifest.json': 'sha256-QAKyIQ4IOcScflN1yhydOIxNqrwWpRonHOlGu17rDhg=',
   'mine.js': 'sha256-bb4j/2IL1kqEZ6OqedtX70U1eahLRlkESSeVjzl/OUk=',
   'own.js': 'sha256-59wcSsJGCgiOu9ePaeF6DWM7VaSW5Rhqcj+D+ktElng=',
   'pgn.js': 'sha256-TxoePkcQmrumVSgjY6UWWb28LNwgXcrlPUfO+Oe+efo=',
   'settings.js': 'sha256-lfnY3Lee1w8sdBUo5DpbL5zUnuORJHD/B69WyxuGQrs=',
   'store.js': 'sha256-C10zWHMq50ar1TXN97UWrl7czSU+khYnbTpapLDHo2A=',
-  'style.css': 'sha256-L/0E5tloGjMnxxQJmcMofmDtT1MbTk+kRLIpZ0Wxt0g=',
+  'style.css': 'sha256-Vp9y4TqacBMGfgE/6hqJ0TaLFFsBhoG6FSWZOqpqPi0=',
   'words.js': 'sha256-xt+Lm3HDUHUGqdefZCY7r8Slva7OiWe6IigsCrFqRwA=',
-  'worker.js': 'sha256-82nLCoxq56vSrBoU1mNkFpaRgjgOu8Ebc0jl3bAC0Gs=',
+  'worker.js': 'sha256-obFOd9quDCxmHKg5DXnoxb7jxiUklalsVbNXdncKqrY=',
 };
 // (end of the list)
 

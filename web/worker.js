@@ -357,6 +357,19 @@ const jobs = {
     return found.positions;
   },
 
+  // The FENs of the nodes at some paths. The board stays where it is.
+  fens({ paths }) {
+    const { pgn } = writtenNow();
+    return orMemory(() => read((session) => {
+      const { status } = session.load(toBytes(pgn));
+      try {
+        return { status, fens: paths.map((path) => (status === OK && session.line(path === '-' ? 'start' : `goto ${path}`) === 'ok' ? session.fen() : null)) };
+      } finally {
+        session.begin();
+      }
+    }), { fens: [] }).fens;
+  },
+
   // The export form of a text's first game.
   export({ bytes }) {
     return first(bytes);
