@@ -229,7 +229,7 @@ class Games(Browsing):
         return self.page.script("""
             const many = (name) => (document.querySelector(`#graph .${name}`)?.getAttribute('d').match(/[ML]/g).length ?? 0);
             const white = many('white');
-            return document.getElementById('graph').hidden ? [0, 0, ''] : [white ? white - 2 : 0, many('engine'), document.getElementById('graph').getAttribute('aria-label')];
+            return document.getElementById('graph').hidden ? [0, 0, ''] : [white ? white - 2 : 0, many('curve'), document.getElementById('graph').getAttribute('aria-label')];
         """)
 
     def evaluations(self):
@@ -267,6 +267,9 @@ class Games(Browsing):
         page.until(lambda: self.curves()[:2] == [3, 6], "the whole line is drawn")
         self.assertEqual(self.curves()[2], f"Evaluations of the main line, in the comments from +0.2 to +0.3, and by the engine from {found[0][1]} to {found[5][1]}")
         self.assertEqual(page.script("return document.getElementById('analyseall').getAttribute('aria-pressed')"), "false")
+        # (also in a narrow window, which hides the engine's own lines)
+        page.script("document.querySelector('main').style.width = '20rem'; document.querySelector('section.engine').style.display = 'none'")
+        self.assertEqual(page.script("return [...document.querySelectorAll('#graph path')].filter((it) => it.matches('.engine') || getComputedStyle(it).display === 'none').length"), 0)
         # another move keeps those of the moves before
         page.script("document.getElementById('end').click()")
         page.script("document.getElementById('delete').click()")

@@ -54,7 +54,7 @@ export class Graph {
     const picture = part('svg', { viewBox: `0 0 ${this.many} ${HIGH}`, preserveAspectRatio: 'none', 'aria-hidden': 'true' });
     if (white) picture.append(part('path', { class: 'white', d: `M${comments[0].at} ${HIGH}L${white}L${comments.at(-1).at} ${HIGH}z` }));
     picture.append(part('path', { class: 'middle', d: `M0 ${HIGH / 2}H${this.many}` }));
-    if (other) picture.append(...['edge', 'engine'].map((name) => part('path', { class: name, d: `M${other}` })));
+    if (other) picture.append(...['edge', 'curve'].map((name) => part('path', { class: name, d: `M${other}` })));
     picture.append(this.mark);
     this.place.replaceChildren(picture);
     const [inComments, byEngine] = curves.map((it) => (it.length ? `from ${it[0].found.text} to ${it.at(-1).found.text}` : ''));

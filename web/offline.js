@@ -1,6 +1,6 @@
 // Keeps the page's own files of one version in the browser, so that it opens without a net. A new version replaces them as a whole.
 // The list is written by tools/offline.
-const VERSION = 'c4ce230c03e13cd6';
+const VERSION = '096e9eca1132adde';
 const KEPT = {
   'about.html': 'sha256-r1CC3PSgnT3IeddTCQ+9Qc4Ht/lyiBkQBzsxB+mInYc=',
   'analysis.js': 'sha256-EBXrFs+aNX0zv+2Ew0PpWs3xd/QObjPbhPtKc7Rf1/U=',
@@ -15,13 +15,13 @@ const KEPT = {
   'evals.js': 'sha256-wQR6YJCBOg13PCe8tq1sWgmjUbIyx3FTT7KFi7UB+J8=',
   'files.js': 'sha256-0rfGLqLHWOIMzzqeM7CkpZtu4Z4ZFNQkyNgeAA6wsIg=',
   'game.js': 'sha256-3hmUhmUW9r/OJwh2PJhVDMtV3yMmB7t7lRy7kYvulqw=',
-  'graph.js': 'sha256-Gi5GR4H1tOmzV1kKFgjHWxPsqnVeCM31/9UKppRRCCo=',
+  'graph.js': 'sha256-kiZBtyFYuJQRNOrvi80izSxOj7asNCXUXQg3GU+tZDg=',
   'history.js': 'sha256-RLVHLQ+yLGfFvQ3BPW1pGbtaJkvMxkPEIXhM7IR8hYE=',
   'icon-180.png': 'sha256-ZHAADm7xEcOvlYm1SUwNSluxpBuZoXY0pxAV0aAue2w=',
   'icon-192.png': 'sha256-dDBraL7vMtodXDIdT9kkB4nmtLHKDDvq75i4QBmFy1Y=',
   'icon-512.png': 'sha256-kKyDl2nv4OOxpJUmrtDtH5oAQqigmf5TT2OnNGXpHsU=',
   'icon.svg': 'sha256-MIqbBfrY8jneIrbk+mcJq7TJSYDbHm5LwjQhbWTpmWU=',
-  'index.html': 'sha256-W+O2J+Mv1DpCEHGN68G2rQEXKnhHONsQa+2D+gxUg1I=',
+  'index.html': 'sha256-VRcVTTBrv5kz1JJX2OnUiFdI+PvspYs7O294CYsnct4=',
   'jatshegi.wasm': 'sha256-sMpxIk4Jl+wIBP6vesiZ9J85AYkR9s2nWE8qNIKN15o=',
   'jatshegi/src/boards.js': 'sha256-K4MmeyCEFE27yt5c5E+54f5M3YUlgeJfrvueBTPOFR4=',
   'jatshegi/src/bytes.js': 'sha256-LBtpigRyCU+u7acHDGRl53R4GTPRblnbyZw1zI1KCLk=',
@@ -46,7 +46,7 @@ const KEPT = {
   'pgn.js': 'sha256-TxoePkcQmrumVSgjY6UWWb28LNwgXcrlPUfO+Oe+efo=',
   'settings.js': 'sha256-lfnY3Lee1w8sdBUo5DpbL5zUnuORJHD/B69WyxuGQrs=',
   'store.js': 'sha256-C10zWHMq50ar1TXN97UWrl7czSU+khYnbTpapLDHo2A=',
-  'style.css': 'sha256-Vp9y4TqacBMGfgE/6hqJ0TaLFFsBhoG6FSWZOqpqPi0=',
+  'style.css': 'sha256-JSa1AIrvflNfrHASY8ux/Dp4OaTUuaWVKS1sQQEbb9o=',
   'words.js': 'sha256-xt+Lm3HDUHUGqdefZCY7r8Slva7OiWe6IigsCrFqRwA=',
   'worker.js': 'sha256-obFOd9quDCxmHKg5DXnoxb7jxiUklalsVbNXdncKqrY=',
 };
