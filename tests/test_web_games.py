@@ -224,6 +224,105 @@ class Games(Browsing):
         page.until(lambda: len(page.moves.split()) > 2, "the engine has moved")
         self.assertEqual(self.bar(), [False, ""])
 
+    def curves(self):
+        """How many evaluations the graph shows of the comments and of the engine, and its words."""
+        return self.page.script("""
+            const many = (name) => (document.querySelector(`#graph .${name}`)?.getAttribute('d').match(/[ML]/g).length ?? 0);
+            const white = many('white');
+            return document.getElementById('graph').hidden ? [0, 0, ''] : [white ? white - 2 : 0, many('curve'), document.getElementById('graph').getAttribute('aria-label')];
+        """)
+
+    def evaluations(self):
+        return self.browser.execute_async_script("""
+            const done = arguments[0];
+            window.jatshegi.evaluations().then((all) => done(all.map((it) => it && [it.depth, it.text])), (error) => done(String(error)));
+        """)
+
+    def of_the_program(self, moves, depth):
+        """What the program says of a position at a depth, as the page shows it for White."""
+        given = f"position startpos moves {' '.join(moves)}\ngo depth {depth}\n".encode()
+        said = test_web.chess("uci", given=given).stdout.decode()
+        kind, number = re.findall(rf"^info depth {depth} .*?score (cp|mate) (-?\d+)", said, re.M)[-1]
+        value = int(number) * (1 if len(moves) % 2 == 0 else -1)
+        sign = "\u2212" if value < 0 else ""
+        return f"{sign}#{abs(value)}" if kind == "mate" else f"{sign or ('+' if value > 0 else '')}{abs(value) / 100:.1f}"
+
+    def test_the_engine_s_evaluations_are_beside_those_of_the_comments(self):
+        page, moves = self.page, ["e2e4", "e7e5", "f1c4", "b8c6", "d1h5", "g8f6", "h5f7"]
+        page.choose("depth", "2")
+        self.given("1. e4 {[%eval 0.2]} e5 {[%eval 0.1]} 2. Bc4 Nc6 3. Qh5 {[%eval 0.3]} Nf6 4. Qxf7# *")
+        self.assertEqual(self.curves()[:2], [3, 0])
+        # of the positions that are visited
+        page.script("document.getElementById('analyse').click()")
+        for number in range(3):
+            page.script("document.getElementById('forward').click()")
+            page.until(lambda: (self.evaluations() + [None] * 9)[number] is not None and self.evaluations()[number][0] == 2, f"position {number} is evaluated")
+        page.until(lambda: self.curves()[:2] == [3, 3], lambda: f"both are drawn: {self.curves()}")
+        page.script("document.getElementById('analyse').click()")
+        # of the whole game, of which the last position needs none
+        page.script("document.getElementById('analyseall').click()")
+        page.until(lambda: page.text("analysed") == "All 7 positions are analysed to depth 2", lambda: page.text("analysed"))
+        found = self.evaluations()
+        self.assertEqual(found, [[2, self.of_the_program(moves[:i + 1], 2)] for i in range(6)] + [None])
+        page.until(lambda: self.curves()[:2] == [3, 6], "the whole line is drawn")
+        self.assertEqual(self.curves()[2], f"Evaluations of the main line, in the comments from +0.2 to +0.3, and by the engine from {found[0][1]} to {found[5][1]}")
+        self.assertEqual(page.script("return document.getElementById('analyseall').getAttribute('aria-pressed')"), "false")
+        # (also in a narrow window, which hides the engine's own lines)
+        page.script("document.querySelector('main').style.width = '20rem'; document.querySelector('section.engine').style.display = 'none'")
+        self.assertEqual(page.script("return [...document.querySelectorAll('#graph path')].filter((it) => it.matches('.engine') || getComputedStyle(it).display === 'none').length"), 0)
+        # another move keeps those of the moves before
+        page.script("document.getElementById('end').click()")
+        page.script("document.getElementById('delete').click()")
+        page.until(lambda: "Qxf7" not in page.moves, "the last move is taken out")
+        self.assertEqual(self.evaluations(), found[:6])
+        page.until(lambda: self.curves()[:2] == [3, 6], "the line is as before")
+
+    def test_the_run_over_the_game_ends_when_it_is_told(self):
+        page = self.page
+        page.choose("depth", "16")
+        page.play("e4", "e5")
+        page.script("document.getElementById('analyseall').click()")
+        page.until(lambda: page.script("return document.getElementById('analyseall').getAttribute('aria-pressed')") == "true", "it runs")
+        page.until(lambda: page.text("analysed").startswith("Analysed 0 of 3"), lambda: page.text("analysed"))
+        # (the board answers meanwhile)
+        page.play("Nf3")
+        page.script("document.getElementById('analyseall').click()")
+        self.assertEqual((page.text("analysed"), page.script("return document.getElementById('analyseall').getAttribute('aria-pressed')")), ("Ended: 0 of 3 positions are analysed", "false"))
+        # a game without a comment has the engine's graph alone
+        page.choose("depth", "1")
+        page.script("document.getElementById('analyseall').click()")
+        page.until(lambda: page.text("analysed").startswith("All 4 positions"), lambda: page.text("analysed"))
+        page.until(lambda: self.curves()[:2] == [0, 3], lambda: f"it is drawn: {self.curves()}")
+
+    def diagrams(self):
+        return self.page.script("return [...document.querySelectorAll('#moves .diagram')].map((it) => [it.dataset.fen ?? '', it.querySelectorAll('.man').length])")
+
+    def test_diagrams_are_asked_for_by_comments(self):
+        page = self.page
+        start, first, second = "rnbqkbnr/pppppppp/8/8/8/8/PPPPPPPP/RNBQKBNR w KQkq - 0 1", "rnbqkbnr/pppppppp/8/8/4P3/8/PPPP1PPP/RNBQKBNR b KQkq e3 0 1", "rnbqkbnr/pp1ppppp/8/2p5/4P3/8/PPPP1PPP/RNBQKBNR w KQkq c6 0 2"
+        self.given("{[#] begun} 1. e4 {[#] good} d5 (1... c5 {[%csl Ge4] [#]}) 2. exd5 *")
+        page.until(lambda: self.diagrams() == [[start, 32], [first, 32], [second, 32]], lambda: f"three are drawn: {self.diagrams()}")
+        self.assertNotIn("[#]", page.moves)
+        # a chosen move gets one, and loses it
+        self.at(["end"])
+        had = self.text()
+        page.script("document.getElementById('diagram').click()")
+        page.until(lambda: len(self.diagrams()) == 4 and self.diagrams()[3] == ["rnbqkbnr/ppp1pppp/8/3P4/8/8/PPPP1PPP/RNBQKBNR b KQkq - 0 2", 31], lambda: f"four are drawn: {self.diagrams()}")
+        self.assertIn("2. exd5 {[#]} *", " ".join(self.text().split()))
+        # it stays when the words change
+        page.type("comment", "taken")
+        self.assertIn("2. exd5 {[#] taken} *", " ".join(self.text().split()))
+        self.assertEqual((self.box(), len(self.diagrams())), ("taken", 4))
+        page.type("comment", " ")
+        page.script("document.getElementById('diagram').click()")
+        self.assertEqual(self.text(), had)
+        page.until(lambda: len(self.diagrams()) == 3, "three are left")
+        page.script("document.getElementById('undo').click()")
+        page.until(lambda: len(self.diagrams()) == 4, "undo brings it back")
+        # the same moves from another position have other diagrams
+        page.paste(f'[FEN "{start.replace("RNBQKBNR", "RNBQK2R")}"]\n\n' + "{[#] begun} 1. e4 {[#] good} d5 (1... c5 {[%csl Ge4] [#]}) 2. exd5 *")
+        page.until(lambda: [it[1] for it in self.diagrams()] == [30] * 3, lambda: f"they are drawn anew: {self.diagrams()}")
+
     def wheel(self, far, **more):
         return self.page.script("""
             const it = new WheelEvent('wheel', { deltaY: arguments[0], bubbles: true, cancelable: true, ...arguments[1] });
@@ -299,10 +398,12 @@ class InChromium(Games, unittest.TestCase):
     def test_a_print_has_the_names_a_diagram_and_all_moves(self):
         page = self.page
         knights = "Nf3 Nf6 Ng1 Ng8 " * 30
-        self.given(f'[White "A"]\n[Black "B"]\n[Result "1-0"]\n\n1. e4 {{good}} e5 (1... c5 {{[%eval 0.2]}}) {knights}1-0')
+        self.given(f'[White "A"]\n[Black "B"]\n[Result "1-0"]\n\n1. e4 {{good [#]}} e5 (1... c5 {{[%eval 0.2] [#]}}) {knights}1-0')
+        page.until(lambda: [it[1] for it in self.diagrams()] == [32] * 2, "the diagrams are drawn")
+        self.assertEqual(page.script("return [...document.querySelectorAll('.spot')].filter((it) => it.checkVisibility()).length"), 0)
         page.script("window.printed = 0; window.print = () => { window.printed++; }; document.documentElement.dataset.theme = 'dark'")
         page.click("print")
-        self.assertEqual(page.script("return window.printed"), 1)
+        page.until(lambda: page.script("return window.printed") == 1, "it is printed")
         page.squares("e2")
         self.browser.execute_cdp_cmd("Emulation.setEmulatedMedia", {"media": "print"})
         try:
@@ -314,6 +415,11 @@ class InChromium(Games, unittest.TestCase):
                 return {
                     shown: ['player1', 'player2', 'board', 'moves', 'status', 'top', 'bar', 'graph', 'san', 'comment', 'menubutton', 'find'].filter((id) => of(id).checkVisibility()),
                     isWhole: box.scrollHeight <= box.clientHeight + 1 && moves.every((it) => it.getBoundingClientRect().top >= top - 1 && it.getBoundingClientRect().bottom <= bottom + 8),
+                    diagrams: [...document.querySelectorAll('.diagram')].map((it) => {
+                      const { width, height } = it.getBoundingClientRect();
+                      const spots = [...it.children].map((spot) => spot.getBoundingClientRect());
+                      return [Math.abs(width - height) < 3, width > 200, spots.filter(({ width, height }) => width > 20 && Math.abs(width - height) < 1).length, it.querySelectorAll('.man').length];
+                    }),
                     many: moves.length, page: getComputedStyle(document.body).backgroundColor, ink: getComputedStyle(moves[0]).color,
                     square: [...document.querySelectorAll('#board .square')].every((it) => getComputedStyle(it).boxShadow === 'none'), wide: document.getElementById('board').offsetWidth,
                 };
@@ -321,7 +427,7 @@ class InChromium(Games, unittest.TestCase):
         finally:
             self.browser.execute_cdp_cmd("Emulation.setEmulatedMedia", {"media": ""})
         self.assertEqual(seen.pop("wide") // 10, 34)
-        self.assertEqual(seen, {"shown": ["player1", "player2", "board", "moves", "status"], "isWhole": True, "many": 123, "page": "rgb(255, 255, 255)", "ink": "rgb(0, 0, 0)", "square": True})
+        self.assertEqual(seen, {"shown": ["player1", "player2", "board", "moves", "status"], "isWhole": True, "diagrams": [[True, True, 64, 32]] * 2, "many": 123, "page": "rgb(255, 255, 255)", "ink": "rgb(0, 0, 0)", "square": True})
 
     def test_the_page_can_be_installed(self):
         with open(f"{test_web.WEB}/index.html", encoding="utf-8") as file:

@@ -133,7 +133,7 @@ class Model:
         self.states, self.at, self.is_kept = [], -1, is_kept
         self.begun_from = begun_from if begun_from is None or begun_from.is_kept else begun_from.begun_from
         if text:
-            game = jatshegi.pgn.read_game(text.encode())
+            game = jatshegi.pgn.read_game(text.encode(), repaired=lambda _: None)
             self.board = jatshegi.Board.from_game(game)
             self.tags = {name: value for name, value in game.headers.items() if name not in ("Result", "FEN", "SetUp")}
             self.result = game.result
@@ -233,6 +233,13 @@ GAMES = [
     '[White "Clocks"]\n\n1. e4 {[%eval 0.18] [%clk 0:05:00] best by test [%cal Ge2e4,Rd1h5]} e5 {[%csl Yd5][%clk 0:04:59.3]} (1... c5 {[%cal Gc5d4]}) 2. Nf3 {[%odd [%csl Ge4] a] [%x] b} *',
     '[White "\u00c5 \\"b\\" \\\\ c"]\n[Date "2024.??.??"]\n[WhiteElo "?"]\n[Custom ""]\n\n1. c4 {x} *',
 ]
+# Games that can't be read: the page shows them repaired.
+BAD = [
+    '[White "Bad"]\n[Date "2024.02.30"]\n\n1. e4 {a} e5 2. Ke3 Nf6 {b} *',
+    '[White "Half]\n[Black "Two"]\n\n1. e2-e4 e5 2. Nf3 Nc6 3. Bc4 Bc5 4. OO Nf6 (4... d6 5. c3 {open',
+    "1. d4 d5 (1... Nf6 2. Zz9 g6) 2. c4 e6?? {[%eval 0.4] so} 3. nc3 1-0",
+    '[FEN "7k/P7/8/8/8/8/8/K7 w - - 4 60"]\n\n60. a8=Q+ Kh7 61. Qa8 Kg6 *',
+]
 
 
 class Keeping(Browsing):
@@ -269,7 +276,7 @@ class Keeping(Browsing):
             elif what == "edit":
                 fen = self.edit(rng)
             elif what == "paste":
-                text = rng.choice(GAMES)
+                text = rng.choice(rng.choice([GAMES, BAD]))
                 page.paste(text)
             elif what == "listed":
                 fens = [f"r3k2r/8/8/8/8/8/8/R3K2R b KQkq - {rng.randrange(50)} 7", "4k3/8/8/3pP3/8/8/8/4K3 w - d6 0 2"]

@@ -1,6 +1,7 @@
 // The engine on the page: what it says, how it is stopped, and its replies in a game against it.
 import { ask, module } from './ask.js';
 import { evaluationHere } from './draw.js';
+import { note, toggleRun } from './evals.js';
 import { game, lines } from './game.js';
 import { share } from './graph.js';
 
@@ -157,6 +158,7 @@ const heard = (said) => {
     const value = (engine.side === 'w' ? 1 : -1) * Number(info[3]);
     engine.named = { depth: Number(info[1]), isMate: info[2] === 'mate', value, move: info[4] };
     drawLine(engine.named);
+    note(engine.fen, engine.named);
     if (analyses()) points.at(info[4]);
     thinking(`Depth ${info[1]} of ${engine.depth}`);
     if (analyses()) drawBar(engine.named.isMate ? Math.sign(value) * 2000 : value, engine.named.isMate ? `#${Math.abs(value)}` : brief(value));
@@ -230,6 +232,9 @@ export const positionDrawn = (isMoved) => {
   Object.assign(engine, { last: game.state.fen, said });
   reply();
 };
+
+/** Begins or ends the engine's run over the whole game. */
+export const toggleAll = () => toggleRun(depthNow());
 
 export const toggleAnalysis = () => {
   by('analyse').setAttribute('aria-pressed', String(!analyses()));

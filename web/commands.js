@@ -1,11 +1,19 @@
 // The commands that programs write into comments, `[%name value]`: clocks, evaluations, arrows and circles. The page shows them apart from the words, and keeps them.
-const COMMAND = /\[%([A-Za-z]\w*)\s+([^\]]*)\]/g;
+// The sign for a diagram, `[#]`, is one of them, without a name of its own.
+const COMMAND = /\[%([A-Za-z]\w*)\s+([^\]]*)\]|\[#\]/g;
+const DIAGRAM = '#';
 
 /** The commands of a comment, `{name, value, text}`, and its words. */
 export const split = (comment) => {
-  const commands = [...comment.matchAll(COMMAND)].map(([text, name, value]) => ({ name: name.toLowerCase(), value: value.trim(), text }));
+  const commands = [...comment.matchAll(COMMAND)].map(([text, name = DIAGRAM, value = '']) => ({ name: name.toLowerCase(), value: value.trim(), text }));
   return { commands, words: comment.replace(COMMAND, ' ').replace(/\s+/g, ' ').trim() };
 };
+
+/** Whether a comment asks for a diagram. */
+export const hasDiagram = (commands) => commands.some(({ name }) => name === DIAGRAM);
+
+/** The commands with the sign for a diagram, or without it where it was there. */
+export const withDiagram = (commands) => (hasDiagram(commands) ? commands.filter(({ name }) => name !== DIAGRAM) : [{ name: DIAGRAM, value: '', text: '[#]' }, ...commands]);
 
 /** A comment of commands and words. */
 export const joined = (commands, words) => [...commands.map(({ text }) => text), words].filter(Boolean).join(' ');

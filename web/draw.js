@@ -1,8 +1,12 @@
 // What the page shows of the game: the status with its articles, the moves, the comment, and the names.
+import { ask } from './ask.js';
 import { clock, evaluation, shapes, split } from './commands.js';
+import { evaluations, watch } from './evals.js';
 import { game, lines, page, retag, tag } from './game.js';
 import { Graph } from './graph.js';
 import { shown } from './jatshegi/src/bytes.js';
+import { man, named } from './jatshegi/src/men.js';
+import { FILES, placed } from './jatshegi/src/placement.js';
 import { canRedo, canUndo } from './mine.js';
 import { nodesOn, pathOf, rows, typed } from './pgn.js';
 import { CLAIMS, CLAIMS_WITH, MARKS, RESULTS, ROSTER, STATUS } from './words.js';
@@ -142,6 +146,43 @@ const piecesOf = (all) => {
   return found;
 };
 
+let pieces = [];
+
+// ---- The diagrams.
+
+// A diagram is a sign in the list of moves, and on paper a board.
+const diagram = () => {
+  const it = element('span', '', 'diagram');
+  it.setAttribute('role', 'img');
+  it.setAttribute('aria-label', 'Diagram');
+  return it;
+};
+
+const fillDiagram = (it, fen) => {
+  if (it.dataset.fen === fen) return;
+  it.dataset.fen = fen;
+  const men = placed(fen);
+  it.setAttribute('aria-label', `Diagram: ${Object.entries(men).map(([square, letter]) => `${named(letter)} ${square}`).join(', ')}`);
+  it.replaceChildren(...[8, 7, 6, 5, 4, 3, 2, 1].flatMap((rank) => [...FILES].map((file, i) => {
+    const square = element('span', '', (i + rank) % 2 ? 'spot dark' : 'spot');
+    if (men[file + rank]) square.append(man(men[file + rank]));
+    return square;
+  })));
+};
+
+const wantsDiagram = ({ comment = '' }) => comment.includes('[#]');
+
+/** Draws the diagrams that comments ask for, by the module's positions; the browser's own print has them once this is done. */
+export const drawDiagrams = async () => {
+  const now = pieces;
+  const asks = now.flatMap(({ shows, place }) => {
+    const places = place.querySelectorAll('.diagram');
+    return shows.map(({ row }) => row).filter(wantsDiagram).map((row, i) => ({ path: pathOf(row).join('.') || '-', place: places[i] }));
+  });
+  const fens = asks.length ? await ask('fens', { paths: asks.map(({ path }) => path) }) : [];
+  if (now === pieces) asks.forEach(({ place }, i) => fens[i] && fillDiagram(place, fens[i]));
+};
+
 const drawPiece = ({ shows }) => {
   const top = element('div', '', 'piece');
   const open = [top];
@@ -159,12 +200,11 @@ const drawPiece = ({ shows }) => {
       if (row.kind === 'move') to.append(...(open.length === 1 ? inColumns(it) : [buttonFor(row, `${number ? `${number} ` : ''}${text}`), ' ']));
       const { words } = partsOf(row);
       if (words) to.append(element('span', ` ${words} `, 'remark'));
+      if (wantsDiagram(row)) to.append(diagram());
     }
   }
   return top;
 };
-
-let pieces = [];
 
 const drawTree = (all) => {
   const box = by('moves');
@@ -207,6 +247,18 @@ let marks = [];
 export const marksHere = () => marks;
 
 const graph = new Graph(by('graph'), (row) => lines(`goto ${pathOf(row).join('.')}`));
+
+// What the engine said is drawn a little later: it says much in a moment, and who steps on waits for nothing.
+const LATER = 150;
+let telling = 0;
+watch.changed = () => {
+  clearTimeout(telling);
+  telling = setTimeout(async () => {
+    const all = drawn;
+    const said = await evaluations().catch(() => []);
+    if (all === drawn) graph.tell(said);
+  }, LATER);
+};
 
 let drawn = null;
 let marked = null;
@@ -261,6 +313,8 @@ export const drawMoves = () => {
   if (drawn !== all) {
     drawTree(all);
     graph.show(all[0], (it) => partsOf(it).commands);
+    watch.changed();
+    drawDiagrams().catch(() => {});
   }
   drawn = all;
   graph.go(row);

@@ -1,6 +1,7 @@
 // The board editor: men are put, moved and taken, by drag, by taps and by keys, and the fields of a FEN beside them. Whether it is a position, the module says.
 import { ask } from './ask.js';
 import { game } from './game.js';
+import { dragged } from './jatshegi/src/drag.js';
 import { man, named } from './jatshegi/src/men.js';
 import { FILES, placed, placement } from './jatshegi/src/placement.js';
 import { typed } from './pgn.js';
@@ -132,15 +133,6 @@ const choose = (tool) => {
 
 const squareAt = (x, y) => document.elementFromPoint(x, y)?.closest('[data-edit]')?.dataset.edit;
 
-const ghostOf = (letter) => {
-  const it = document.createElement('div');
-  it.className = 'ghost';
-  it.style.width = it.style.height = `${editor.squares.e4.offsetWidth}px`;
-  it.append(man(letter));
-  by('fenbox').append(it);
-  return it;
-};
-
 // What is let go beside the box is no click there, which would close it.
 const swallowClick = () => {
   const swallow = (event) => event.stopPropagation();
@@ -154,33 +146,19 @@ const down = (event) => {
   const tool = event.target.closest('#palette [data-man]')?.dataset.man;
   if ((!from && !tool) || event.button !== 0) return;
   const letter = from ? editor.men[from] : tool === TAKE ? '' : tool;
-  const { clientX: x, clientY: y } = event;
   event.preventDefault();
   event.target.closest('button').focus({ preventScroll: true });
-  let ghost = null;
-  const moved = (it) => {
-    if (!ghost && letter && Math.hypot(it.clientX - x, it.clientY - y) > 5) ghost = ghostOf(letter);
-    if (!ghost) return;
-    ghost.style.left = `${it.clientX - ghost.offsetWidth / 2}px`;
-    ghost.style.top = `${it.clientY - ghost.offsetHeight / 2}px`;
-  };
-  const ended = (it) => {
-    removeEventListener('pointermove', moved);
-    removeEventListener('pointerup', ended);
-    removeEventListener('pointercancel', ended);
-    ghost?.remove();
+  const ends = (it, isDragged) => {
     if (it.type !== 'pointerup') return;
-    if (ghost) swallowClick();
+    if (isDragged) swallowClick();
     const to = squareAt(it.clientX, it.clientY);
-    if (!ghost) {
+    if (!isDragged) {
       if (from && to === from) pick(from);
     } else if (from && to) moveMan(from, to);
     else if (to) put(to, letter);
     else if (from) put(from, '');
   };
-  addEventListener('pointermove', moved);
-  addEventListener('pointerup', ended);
-  addEventListener('pointercancel', ended);
+  dragged(event, { begins: () => (letter ? { letter, size: editor.squares.e4.offsetWidth, into: by('fenbox') } : null), ends });
 };
 
 const goBy = ([x, y]) => {

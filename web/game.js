@@ -1,6 +1,6 @@
 // The game on the board: what the board says of it, the comment that is being typed, and the states before.
 import { ask } from './ask.js';
-import { joined, split, toggled } from './commands.js';
+import { joined, split, toggled, withDiagram } from './commands.js';
 import { History } from './history.js';
 import { shown, toBytes } from './jatshegi/src/bytes.js';
 import { typed } from './pgn.js';
@@ -169,12 +169,18 @@ const answered = async (all) => {
 /** Has the board answer lines, and draws what it then is. Returns whether all were answered. */
 export const lines = (...all) => doing(() => answered(all));
 
-/** Draws an arrow or a circle in the comment at the cursor, as `Ge2e4` or `Rd5`, or takes it out. `said` gives the comment there. */
-export const drawn = (item, said) => doing(async () => {
+// Has the comment at the cursor other commands; `said` gives that comment.
+const commanded = (change, said) => doing(async () => {
   if (!await isSettled()) return false;
   const { commands, words } = split(said());
-  return answered([`comment ${typed(joined(toggled(commands, item), words))}`]);
+  return answered([`comment ${typed(joined(change(commands), words))}`]);
 });
+
+/** Draws an arrow or a circle in the comment at the cursor, as `Ge2e4` or `Rd5`, or takes it out. `said` gives the comment there. */
+export const drawn = (item, said) => commanded((commands) => toggled(commands, item), said);
+
+/** Has a print show a diagram at the cursor, or none there. */
+export const diagrammed = (said) => commanded(withDiagram, said);
 
 /** Plays the move that a text as people type it means. Where it means none or several, that is said and nothing has changed. */
 export const playTyped = (text) => doing(async () => {

@@ -1,12 +1,13 @@
 // The page: carries what a person does to the module as lines, and draws what it answers.
 import { ask, module } from './ask.js';
-import { moveNow, points, positionChanged, positionDrawn, reply, toggleAnalysis, toggleDepths } from './analysis.js';
+import { moveNow, points, positionChanged, positionDrawn, reply, toggleAll, toggleAnalysis, toggleDepths } from './analysis.js';
 import { joined, split } from './commands.js';
 import { dialogs, openDialog, placeAt } from './dialogs.js';
-import { drawMoves, drawPlayers, drawStatus, drawTags, marksHere, pathAt, saidHere, shapesHere, showComment } from './draw.js';
+import { drawDiagrams, drawMoves, drawPlayers, drawStatus, drawTags, marksHere, pathAt, saidHere, shapesHere, showComment } from './draw.js';
 import { editing } from './editor.js';
+import { evaluations } from './evals.js';
 import { choose, download, listAgain, markOpened, read, readWhole, saveBack, showCollection } from './files.js';
-import { begin, drawn, exported, fileName, game, isSettled, lines, mark, page, playTyped, redo, settled, stepped, doing, undo, unmark } from './game.js';
+import { begin, diagrammed, drawn, exported, fileName, game, isSettled, lines, mark, page, playTyped, redo, settled, stepped, doing, undo, unmark } from './game.js';
 import { keepOffline, renewed } from './kept.js';
 import { faultOf, isEmbedded, keepLink, linkNow, linked, openLink } from './link.js';
 import { shown, toBytes } from './jatshegi/src/bytes.js';
@@ -217,12 +218,17 @@ const games = () => {
   by('save').onclick = out(async () => download(toBytes(exported()), fileName()));
   by('saveall').onclick = out(async () => download(toBytes(await allTexts()), `games-${new Date().toISOString().slice(0, 10)}.pgn`));
   by('saveback').onclick = out(saveBack);
-  by('print').onclick = () => globalThis.print();
+  by('print').onclick = out(async () => {
+    await drawDiagrams();
+    globalThis.print();
+  });
+  by('diagram').onclick = () => diagrammed(saidHere);
   by('find').oninput = showCollection;
 };
 
 const engine = () => {
   by('analyse').onclick = toggleAnalysis;
+  by('analyseall').onclick = toggleAll;
   by('now').onclick = moveNow;
   by('depths').onclick = toggleDepths;
   for (const id of ['depth', 'plays']) by(id).addEventListener('change', () => positionChanged());
@@ -342,7 +348,7 @@ const main = async () => {
 };
 
 // For who looks on, from the console or a test.
-globalThis.jatshegi = { game, exported: async () => shown(exported()), settled, pathAt, canUndo, canRedo };
+globalThis.jatshegi = { game, evaluations, exported: async () => shown(exported()), settled, pathAt, canUndo, canRedo };
 
 main().catch(async (error) => {
   if (await renewed().catch(() => false)) return;

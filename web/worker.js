@@ -341,6 +341,35 @@ const jobs = {
     return ['position fen', game.start, ...(moves.length ? ['moves', ...moves] : [])].join(' ');
   },
 
+  // The positions of the main line, from its start on: the FEN of each, the move that led there, and its status. The board stays where it is.
+  mainline() {
+    const { pgn } = writtenNow();
+    const found = orMemory(() => read((session) => {
+      const { status } = session.load(toBytes(pgn));
+      const positions = [];
+      try {
+        for (let is = status === OK; is; is = session.line('step 0') === 'ok') positions.push({ fen: session.fen(), last: session.last() ?? '', status: session.status() });
+      } finally {
+        session.begin();
+      }
+      return { status, positions };
+    }), { positions: [] });
+    return found.positions;
+  },
+
+  // The FENs of the nodes at some paths. The board stays where it is.
+  fens({ paths }) {
+    const { pgn } = writtenNow();
+    return orMemory(() => read((session) => {
+      const { status } = session.load(toBytes(pgn));
+      try {
+        return { status, fens: paths.map((path) => (status === OK && session.line(path === '-' ? 'start' : `goto ${path}`) === 'ok' ? session.fen() : null)) };
+      } finally {
+        session.begin();
+      }
+    }), { fens: [] }).fens;
+  },
+
   // The export form of a text's first game.
   export({ bytes }) {
     return first(bytes);

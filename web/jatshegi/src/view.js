@@ -1,4 +1,5 @@
 // A board in a document: draws a position, and turns mouse, touch and keys into a pair of squares. Which moves there are, it is told.
+import { dragged, followed } from './drag.js';
 import { man, named } from './men.js';
 import { FILES, placed } from './placement.js';
 
@@ -280,55 +281,34 @@ export class Board {
     if (!from || event.button !== 0) return;
     event.preventDefault();
     this.squares[from].focus({ preventScroll: true });
-    const { clientX: x, clientY: y } = event;
     const was = this.chosen;
-    let ghost = null;
-    const moved = (it) => {
-      if (!ghost && this.begins(from) && Math.hypot(it.clientX - x, it.clientY - y) > 5) {
-        if (this.chosen !== from) {
-          this.chosen = from;
-          this.draw();
-        }
-        ghost = document.createElement('div');
-        ghost.className = 'ghost';
-        const size = this.squares[from].offsetWidth;
-        ghost.style.width = ghost.style.height = `${size}px`;
-        ghost.append(man(this.shown.men[from]));
-        (this.root.body ?? this.root).append(ghost);
-        this.squares[from].classList.add('dragged');
-        this.drawn[from] = '';
+    const begins = () => {
+      if (!this.begins(from)) return null;
+      if (this.chosen !== from) {
+        this.chosen = from;
+        this.draw();
       }
-      if (ghost) {
-        ghost.style.left = `${it.clientX - ghost.offsetWidth / 2}px`;
-        ghost.style.top = `${it.clientY - ghost.offsetHeight / 2}px`;
-      }
+      this.squares[from].classList.add('dragged');
+      this.drawn[from] = '';
+      return { letter: this.shown.men[from], size: this.squares[from].offsetWidth, into: this.root.body ?? this.root };
     };
-    const ended = (it) => {
-      removeEventListener('pointermove', moved);
-      removeEventListener('pointerup', ended);
-      removeEventListener('pointercancel', ended);
+    const ends = (it, isDragged) => {
       const to = it.type === 'pointerup' ? this.squareAt(it.clientX, it.clientY) : undefined;
-      if (!ghost) {
+      if (!isDragged) {
         if (to === from) {
           this.chosen = was;
           this.pick(from);
         }
-        return;
-      }
-      ghost.remove();
-      if (to && to !== from) {
+      } else if (to && to !== from) {
         // (it lies there already)
         this.dropped = to;
         this.move(from, to);
-      }
-      else {
+      } else {
         this.chosen = '';
         this.draw();
       }
     };
-    addEventListener('pointermove', moved);
-    addEventListener('pointerup', ended);
-    addEventListener('pointercancel', ended);
+    dragged(event, { begins, ends });
   }
 
   // With the right button an arrow is drawn, or on one square a circle: green, red with Shift or Ctrl, blue with Alt, yellow with both.
@@ -342,17 +322,11 @@ export class Board {
       to = this.squareAt(it.clientX, it.clientY);
       shows();
     };
-    const ended = (it) => {
-      removeEventListener('pointermove', moved);
-      removeEventListener('pointerup', ended);
-      removeEventListener('pointercancel', ended);
+    followed(moved, (it) => {
       to = it.type === 'pointerup' ? this.squareAt(it.clientX, it.clientY) : undefined;
       this.mark(this.marked);
       if (to) this.draws(`${colour}${from}${to === from ? '' : to}`);
-    };
-    addEventListener('pointermove', moved);
-    addEventListener('pointerup', ended);
-    addEventListener('pointercancel', ended);
+    });
     shows();
   }
 
