@@ -4,6 +4,7 @@ use crate::error::{checked, Error};
 use crate::moves::Move;
 use crate::sys;
 use crate::text::{short, Text};
+use alloc::vec::Vec;
 use core::cell::UnsafeCell;
 use core::fmt;
 use core::ptr;
@@ -137,7 +138,20 @@ impl Board {
         let stop = stop.unwrap_or(&none);
         let (mut moves, mut count, mut visited) = ([sys::Move::default(); 16], 0, 0);
         // SAFETY: the handle is one or none, the room has 16 moves, and the outputs are written.
-        checked(unsafe { sys::jatshegi_board_replies(self.at(), m.raw(), depth, value, nodes, stop.at(), moves.as_mut_ptr(), moves.len(), &mut count, &mut visited) })?;
+        checked(unsafe {
+            sys::jatshegi_board_replies(
+                self.at(),
+                m.raw(),
+                depth,
+                value,
+                nodes,
+                stop.at(),
+                moves.as_mut_ptr(),
+                moves.len(),
+                &mut count,
+                &mut visited,
+            )
+        })?;
         Ok(moves[..count].iter().map(|m| Move::of(*m)).collect())
     }
 
