@@ -11,7 +11,7 @@ from typing import TYPE_CHECKING, Any, Callable, Dict, Iterator, List, NamedTupl
 from . import _library as c
 from ._checks import colour_of, depth_of, square_of, text_of, whole
 from ._core import SHOWN, Calls, Core, numbers_of
-from ._errors import Error, InvalidFenError, LimitError
+from ._errors import Error, IllegalMoveError, InvalidFenError, LimitError
 from ._habits import Habits
 from ._moves import BLACK, SQUARE_NAMES, STARTING_FEN, WHITE, Move
 from ._pieces import BY_LETTER, Piece
@@ -307,6 +307,13 @@ class Board(Core, Calls, Habits):
         return int(self._position().number)
 
     # ---- moves
+
+    def is_legal(self, move: Move) -> bool:
+        """Whether the move is legal."""
+        try:
+            return self._is_legal(move)
+        except IllegalMoveError:
+            return False
 
     def push_san(self, san: str) -> Move:
         """Makes the move that the text names in standard algebraic notation, and returns it. Raises `InvalidMoveError`, `IllegalMoveError`

@@ -268,8 +268,8 @@ class Plain:
         self._call(c.lib.jatshegi_board_write, move, numbers_of(move), text, c.MOST_SAN, byref(count))
         return text.raw[: count.value].decode()
 
-    def is_legal(self, move: Move) -> bool:
-        """Whether the move is legal."""
+    # Whether a move of a board is legal.
+    def _is_legal(self, move: Move) -> bool:
         legal = c_bool()
         self._call(c.lib.jatshegi_board_is_legal, move, numbers_of(move), byref(legal))
         return legal.value

@@ -178,7 +178,7 @@ class CPosition(Structure):
     """A `struct jatshegi_position`."""
 
     _fields_ = [
-        ("men", c_char * 64),
+        ("men", c_uint8 * 64),
         ("side", c_uint8),
         ("castling", c_uint8),
         ("target", c_uint8),
