@@ -37,9 +37,14 @@ returns-in-Some-found c =
     c.as_slice.ensures.value ∙ c.in-Some-found.ensures.replies ∙ (search rules) in
     let handed =
     subst (λ moves. IsHanded (map move_shown moves) c.hand_moves.result c.hand_moves.new.count c.args.room.now c.hand_moves.new.room) held c.hand_moves.ensures in
-    inl (omega arith , omega arith , is_value , subst
-    (λ o. IsSomeAnd o (λ found. RepliesFound says line found c.args.depth c.args.value c.hand_moves.result c.args.count.now c.hand_moves.new.count c.nodes.result c.args.room.now c.hand_moves.new.room))
-    meant (legal , (true , watched , handed)))
+    inl (
+      omega arith,
+      omega arith,
+      is_value,
+      subst
+          (λ o. IsSomeAnd o (λ found. RepliesFound says line found c.args.depth c.args.value c.hand_moves.result c.args.count.now c.hand_moves.new.count c.nodes.result c.args.room.now c.hand_moves.new.room))
+          meant (legal, (true, watched, handed)),
+    )
 
 pub returns : goal.returns
 returns c =
@@ -51,6 +56,11 @@ returns c =
     let legal : is_legal (last line) m ≡ true = search rules in
     let free : IsFree (says 1) = free_first c.args.watch.nodes (is_some c.args.watch.flag) c.requires in
     let watched : Watched says 1 c.nodes.result false = subst (λ n. Watched says 1 n false) (sym c.nodes.ensures) (c.in-None.ensures.watched free) in
-    inl (omega arith , omega arith , is_value , subst
-    (λ o. IsSomeAnd o (λ found. RepliesFound says line found c.args.depth c.args.value 17 c.args.count.now c.args.count.now c.nodes.result c.args.room.now c.args.room.now))
-    meant (legal , (false , watched , (refl , refl , refl))))
+    inl (
+      omega arith,
+      omega arith,
+      is_value,
+      subst
+          (λ o. IsSomeAnd o (λ found. RepliesFound says line found c.args.depth c.args.value 17 c.args.count.now c.args.count.now c.nodes.result c.args.room.now c.args.room.now))
+          meant (legal, (false, watched, (refl, refl, refl))),
+    )
