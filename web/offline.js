@@ -1,6 +1,6 @@
 // Keeps the page's own files of one version in the browser, so that it opens without a net. A new version replaces them as a whole.
 // The list is written by tools/offline.
-const VERSION = 'ffe673e9fa02c15e';
+const VERSION = 'a3dd0bc2beb2be94';
 const KEPT = {
   'about.html': 'sha256-r1CC3PSgnT3IeddTCQ+9Qc4Ht/lyiBkQBzsxB+mInYc=',
   'analysis.js': 'sha256-EBXrFs+aNX0zv+2Ew0PpWs3xd/QObjPbhPtKc7Rf1/U=',
@@ -21,7 +21,7 @@ const KEPT = {
   'icon-192.png': 'sha256-dDBraL7vMtodXDIdT9kkB4nmtLHKDDvq75i4QBmFy1Y=',
   'icon-512.png': 'sha256-kKyDl2nv4OOxpJUmrtDtH5oAQqigmf5TT2OnNGXpHsU=',
   'icon.svg': 'sha256-MIqbBfrY8jneIrbk+mcJq7TJSYDbHm5LwjQhbWTpmWU=',
-  'index.html': 'sha256-3WlKe4RGlwXzdca5Qi9VoD91F6I5hyvnQCyJ38lUpbI=',
+  'index.html': 'sha256-l8XpU/PukHNYlpu8e4rSJ6OjcJMih1yVwgoBakmcBF8=',
   'jatshegi.wasm': 'sha256-fgKJksUKPQ1MOrFyDTL/9Y+wVgPpEC0opv8j0s1Mvbk=',
   'jatshegi/src/boards.js': 'sha256-FhM9HTDTz802BSdSGBxKyxcKhZqbAhriKB7fj7626qM=',
   'jatshegi/src/bytes.js': 'sha256-LBtpigRyCU+u7acHDGRl53R4GTPRblnbyZw1zI1KCLk=',
