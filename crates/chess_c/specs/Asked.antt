@@ -8,7 +8,7 @@
 --   IsBest       the best move and its value
 --   IsBestAt     the same for a depth of 1 to 16 plies
 --   IsBestWithin   the same, unless the search for it is abandoned, or there is no memory
---   IsFollowed     the replies to a move along which its value is held, unless the search for them is abandoned, or nothing is searched
+--   IsFollowed     the replies that hold a move's value are written, or the call says why it wrote no reply
 --   IsMoveHere   the move that leads to a node, or that it is the root
 --   is_legal_meant   three numbers are a legal move
 --   IsPieceAt    what is on a square, for a number that is one
@@ -147,19 +147,19 @@ abbrev pub FollowedUnless : Bool → List MoveParts → (code count count' : ℕ
 FollowedUnless true moves code count count' old new = IsHanded (map move_shown moves) code count' old new
 FollowedUnless false moves code count count' old new = (code ≡ was_abandoned) × (count' ≡ count) × (new ≡ old)
 
--- the replies to a legal move, and how many positions were asked for
+-- the call writes the replies to a legal move, and the number of positions that the search asked for
 abbrev pub RepliesFound : (says : ℕ → Option Bool) → Line → MoveParts → ℕ → ℤ → (code count count' nodes : ℕ) → (old new : List CMove) → Type 0
 RepliesFound says line m depth value code count count' nodes old new =
     (is_legal (last line) m ≡ true)
     × ((made : Bool) × Watched says 1 nodes made × FollowedUnless made (replies_holding false (depth - 1) (extended line m) 1 (neg_ℤ value)) code count count' old new)
 
--- why nothing was searched: the depth or the value is none, the move isn't legal, or there is no memory
+-- the call searched nothing: the depth or the value is out of range, the move is illegal, or memory ran out
 abbrev pub IsUnfollowed : Line → Option MoveParts → ℕ → ℤ → (code : ℕ) → Type 0
 IsUnfollowed line m depth value code =
     ((code ≡ refusal_code Argument) × ((depth ≡ 0) ⊎ (16 < depth) ⊎ (value <ℤ neg_ℤ (pos 30000)) ⊎ (pos 30000 <ℤ value)))
     ⊎ ((code ≡ refusal_code Illegal) × IfSome m (λ found. is_legal (last line) found ≡ false)) ⊎ (code ≡ no_memory)
 
--- the replies to a legal move that is worth the value at a depth from 1 to 16, unless that is abandoned as a watch says, or nothing is searched
+-- the call writes the replies at a depth from 1 to 16, abandons the search as the watch says, or searches nothing
 abbrev pub IsFollowed : (says : ℕ → Option Bool) → Line → Option MoveParts → ℕ → ℤ → (code count count' nodes nodes' : ℕ) → (old new : List CMove) → Type 0
 IsFollowed says line m depth value code count count' nodes nodes' old new =
     ((1 ≤ depth) × (depth ≤ 16) × IsValue value × IsSomeAnd m (λ found. RepliesFound says line found depth value code count count' nodes' old new))

@@ -1,4 +1,4 @@
--- A clock that is lent: what it reads is what its owner's reads, and it is still the one that was lent.
+-- A lender of a clock reads as its owner's clock does, and keeps that clock.
 use Rattle.std.proofs.Common.{◌≡◌, ℕ, inl, inr, List, [], ◌∷◌, refl, sym, ap, ◌∙◌}
 use Rattle.byte_streams.specs.declared.source.Source.{Ghosts as Source}
 use Rattle.byte_streams.specs.declared.sink.Sink.{Ghosts as Sink}
@@ -76,7 +76,7 @@ module _ {N : Type 0} where
     | inr b ↦ b.last.1 ∙ counted_stays (old, 0) b.done b.answers b.state b.runs
   ]
 
--- ---- a session whose clock is lent
+-- ---- a session with a lent clock
 
 module _ {L C N : Type 0} (now : L → C) (name : L → N) (reads : C → ℕ → C → Type 0) where
   abbrev pub lent_reads : L → ℕ → L → Type 0
@@ -229,7 +229,7 @@ module _ {L C N : Type 0} (now : L → C) (name : L → N) (reads : C → ℕ �
         input = e.input;
       }
 
-      -- its clock is still the one that was lent
+      -- it keeps the clock of its owner
       pub still_lent : (result : Ended) → TimedSessionEnds source sink lent_reads s t result r r' w w' → named t ≡ named s
       still_lent Good e = elim (e.good refl) [
         | inl g ↦ whole_name s _ g.text t g.answers

@@ -13,7 +13,7 @@ use Rattle.chess_c.specs.Asked.{RepliesFound}
 use Rattle.chess_c.specs.Moves.{move_meant, move_shown}
 use Rattle.chess_c.proofs.session.Session.replies_within.Goals as goal
 
--- of the first position nothing is said, or that the search goes on
+-- at the first position the watch lets the search go on
 free_first : (nodes : ℕ) (flagged : Bool) → 1 ≤ nodes → IsFree (says_within nodes flagged 1)
 free_first nodes true some =
     let within : nat_lt nodes 1 ≡ false = grind (arith, nat_tests) in
